@@ -1,0 +1,1 @@
+// Which runs are useful, which are cancelled, and which are requested.

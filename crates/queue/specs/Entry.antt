@@ -1,0 +1,59 @@
+-- What the entry answers, and what the lent numbers are afterwards. Assumes nothing: these are definitions.
+use mathlib.Core.List.{List, [], _∷_, _++_}
+use Prim.Native.Nat.{ℕ, zero, suc, _+_, _-_}
+use lib.ListN.{length, getD, take, drop}
+use Rattle.std.specs.declared.option.Option.{Option}
+use Rattle.std.specs.declared.option.Option.the-variants.{Some, None}
+use Rattle.change.specs.Change.{Change, dropped}
+use Rattle.queue.specs.Layout.{most-landed, most-waiting, most-rejected, benches-at, depth-at, landed-count, rejected-count, verdicts-count, running-count, requested-at, queue-length}
+use Rattle.queue.specs.Queue.{Config, Queue, Event, submit, withdraw, report, empty, join, step}
+use Rattle.queue.specs.Numbers.{Sections, sections, whole, config-in, landed-in, waiting-in, rejected-in, changes-section, decode, encode, event-in}
+use Rattle.queue.specs.Refusals.{Check, then, length-check, benches-check, depth-check, refusal, report-kind, withdraw-kind}
+use Rattle.queue.specs.declared.reply.Refusal.{Refusal}
+use Rattle.queue.specs.declared.reply.Reply.{Reply}
+use Rattle.queue.specs.declared.reply.Reply.the-variants.{Done, Refused}
+
+-- a refusal leaves the numbers as they were
+abbrev pub unless-refused : Check → List ℕ → Reply × List ℕ → Reply × List ℕ
+unless-refused None xs taken = taken
+unless-refused (Some r) xs taken = (Refused r, xs)
+
+-- opening writes an empty queue of the config
+abbrev pub config : ℕ → ℕ → Config
+config b k = record { benches = b; depth = k }
+
+abbrev pub opened : List ℕ → ℕ → ℕ → Reply × List ℕ
+opened xs b k =
+    unless-refused (then (length-check xs) (then (benches-check b) (depth-check k))) xs (Done 0, encode (config b k) empty (drop queue-length xs))
+
+-- THE STEP ON NUMBERS. The first refusal that applies; else the numbers of the state that the step gives.
+abbrev pub stepped-to : Config → Queue → List ℕ → Reply × List ℕ
+stepped-to t q behind = (Done (length (q .running)), encode t q behind)
+
+unfoldable pub stepped : List ℕ → List ℕ → Reply × List ℕ
+stepped xs es =
+    unless-refused (refusal report-kind xs es) xs (stepped-to (config-in xs) (step (config-in xs) (decode xs) (event-in es)) (drop queue-length xs))
+
+-- those that wait once an event was recorded
+abbrev pub waiting-after : Event → List Change → List Change
+waiting-after (submit c) ws = join c ws
+waiting-after (withdraw n) ws = dropped n ws
+waiting-after (report i g) ws = ws
+
+-- the numbers once a submission or a withdrawal was recorded: changes as a state is written, verdicts and running as they stood
+abbrev pub recorded-sections : List ℕ → List Change → Sections
+recorded-sections xs ws = record {
+  counters = getD xs benches-at 0 ∷ getD xs depth-at 0 ∷ getD xs landed-count 0 ∷ length ws ∷ getD xs rejected-count 0 ∷ getD xs verdicts-count 0 ∷ getD xs running-count 0 ∷ getD xs requested-at 0 ∷ [];
+  landed = changes-section most-landed (landed-in xs);
+  waiting = changes-section most-waiting ws;
+  rejected = changes-section most-rejected (rejected-in xs);
+  verdicts = sections xs .verdicts;
+  running = sections xs .running;
+  behind = sections xs .behind;
+}
+
+-- what the entry does so far: the first part of the step, for submissions and withdrawals; a report is of no known kind
+unfoldable pub recorded-by : List ℕ → List ℕ → Reply × List ℕ
+recorded-by xs es =
+    unless-refused (refusal withdraw-kind xs es) xs
+    (Done (getD xs running-count 0), whole (recorded-sections xs (waiting-after (event-in es) (waiting-in xs))))

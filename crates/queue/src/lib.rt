@@ -1,0 +1,14 @@
+// The merge queue on lent numbers: opening one, and applying an event to it.
+ghost use Rattle.queue.specs.WorkedDay.{Worked-day};
+
+mod reply;
+
+pub use reply::Refusal;
+pub use reply::Reply;
+
+// The definitions give the worked day.
+pub fn worked_day() -> u8
+    ensures { λ _. ⌜ Worked-day ⌝ }
+{
+    0
+}

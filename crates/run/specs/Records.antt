@@ -1,0 +1,56 @@
+-- Runs and verdicts as records of the lent queue. Assumes nothing: these are definitions.
+use mathlib.Core.Path.{_≡_}
+use mathlib.Core.Bool.{cond}
+use mathlib.Core.List.{List, [], _∷_, _++_}
+use Prim.Native.Nat.{ℕ, _-_, _≤_, min}
+use lib.Dec.{eqb}
+use lib.ListN.{length, getD, take, drop}
+use Rattle.change.specs.Change.{Change, line}
+use Rattle.change.specs.Records.{fixed, rows}
+use Rattle.run.specs.Run.{Run, Verdict}
+
+-- a run goes on with at most so many changes behind the landed ones
+abbrev pub most-following : ℕ
+most-following = 16
+
+-- a run's record: its part, how many of the part's landed changes it begins with, how many follow, and room for these
+abbrev pub run-width : ℕ
+run-width = 19
+
+-- a verdict's record: a run's, and then 1 for good
+abbrev pub verdict-width : ℕ
+verdict-width = 20
+
+-- the run that a record says, on top of what has landed
+abbrev pub run-in : List Change → List ℕ → Run
+run-in landed xs = record {
+  part = getD xs 0 0;
+  changes = take (getD xs 1 0) (line (getD xs 0 0) landed) ++ take (min (getD xs 2 0) most-following) (drop 3 xs);
+}
+
+abbrev pub verdict-in : List Change → List ℕ → Verdict
+verdict-in landed xs = record { run = run-in landed xs; good = eqb (getD xs run-width 0) 1 }
+
+abbrev pub runs-in : List Change → ℕ → List ℕ → List Run
+runs-in landed n xs = rows (run-in landed) run-width n xs
+
+abbrev pub verdicts-in : List Change → ℕ → List ℕ → List Verdict
+verdicts-in landed n xs = rows (verdict-in landed) verdict-width n xs
+
+-- the record of a run: it begins with all landed changes of its part
+unfoldable pub run-row : List Change → Run → List ℕ
+run-row landed r =
+    r .part ∷ length (line (r .part) landed) ∷ (length (r .changes) - length (line (r .part) landed))
+    ∷ fixed most-following (drop (length (line (r .part) landed)) (r .changes))
+
+unfoldable pub verdict-row : List Change → Verdict → List ℕ
+verdict-row landed v = run-row landed (v .run) ++ cond (v .good) 1 0 ∷ []
+
+-- a run that begins with all landed changes of its part, and goes on with few enough for its record
+pub record Ahead (landed : List Change) (r : Run) : Type 0 where
+  pub following : List ℕ
+  pub is : r .changes ≡ line (r .part) landed ++ following
+  pub few : length following ≤ most-following
+
+abbrev pub Ahead-verdict : List Change → Verdict → Type 0
+Ahead-verdict landed v = Ahead landed (v .run)
