@@ -17,6 +17,7 @@ pub use records::read_change;
 pub use records::remove_change;
 pub use records::tidy_changes;
 pub use records::write_change;
+pub use tally::PARTS;
 pub use tally::count_of;
 pub use tally::count_touching;
 pub use tally::tally_parts;

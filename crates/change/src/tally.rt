@@ -11,7 +11,7 @@ use super::records::CHANGE_WIDTH;
 use super::records::change_at;
 
 // A count for each part.
-const PARTS: usize = PART_LIMIT as usize;
+pub const PARTS: usize = PART_LIMIT as usize;
 
 // How many of the n changes from `base` on touch the part.
 pub fn count_touching(queue: &[u64], base: usize, n: usize, part: u64) -> u64

@@ -13,6 +13,7 @@ use super::layout::*;
 use super::reply::Refusal;
 use change::CHANGE_WIDTH;
 use change::MOST_PARTS;
+use change::PARTS;
 use run::MOST_FOLLOWING;
 use run::RUN_WIDTH;
 use run::VERDICT_WIDTH;
@@ -153,4 +154,56 @@ pub fn check_sums(queue: &[u64], counts: Counts) -> Result<Counts, Refusal>
         return Err(Refusal::Malformed(REJECTED_COUNT as u64));
     }
     Ok(counts)
+}
+
+// Of n runs in records from `base` on, the index of the first that begins with more landed changes than its part has.
+fn first_overlong(queue: &[u64], tally: &[u64; PARTS], landed: usize, base: usize, width: usize, n: usize) -> Option<usize>
+    requires fits { ⌜ base + width * n ≤ length (now queue) ⌝ }
+    requires wide { ⌜ 1 < width ⌝ }
+    requires inside { ⌜ landed-at + change-width * landed ≤ length (now queue) ⌝ }
+    requires tallied { ⌜ Tallies (now tally) (changes-in landed (drop landed-at (now queue))) ⌝ }
+    ensures { λ r. ⌜ r ≡ overlong (changes-in landed (drop landed-at (now (queue .entry)))) width n base (now (queue .entry)) ⌝ }
+{
+    let mut at = base;
+    for turn in 0..n {
+        let held = change::count_of(tally, queue, LANDED_AT, landed, queue[at]);
+        if queue[at + 1] > held {
+            return Some(at);
+        }
+        at += width;
+    }
+    None
+}
+
+// No run begins with more landed changes than its part has.
+pub fn check_runs(queue: &[u64], counts: Counts) -> Result<Counts, Refusal>
+    requires long { ⌜ queue-length ≤ length (now queue) ⌝ }
+    requires counted { ⌜ Counted (now queue) counts ⌝ }
+    ensures says { λ r. ⌜ check-of r ≡ runs-check (now (queue .entry)) ⌝ }
+    ensures hands { λ r. ⌜ Hands r (λ n. n ≡ counts) ⌝ }
+{
+    let tally = change::tally_parts(queue, LANDED_AT, counts.landed);
+    if let Some(at) = first_overlong(queue, &tally, counts.landed, VERDICTS_AT, VERDICT_WIDTH, counts.verdicts) {
+        return Err(Refusal::Malformed(at as u64));
+    }
+    if let Some(at) = first_overlong(queue, &tally, counts.landed, RUNNING_AT, RUN_WIDTH, counts.running) {
+        return Err(Refusal::Malformed(at as u64));
+    }
+    Ok(counts)
+}
+
+// There are benches, and not too many.
+pub fn check_benches(benches: u64) -> Result<u64, Refusal>
+    ensures says { λ r. ⌜ check-of r ≡ benches-check benches ⌝ }
+    ensures hands { λ r. ⌜ Hands r (λ n. n ≡ benches) ⌝ }
+{
+    if benches < 1 || benches > MOST_BENCHES { Err(Refusal::Benches) } else { Ok(benches) }
+}
+
+// Some of those that wait are looked at, and not too many.
+pub fn check_depth(depth: u64) -> Result<u64, Refusal>
+    ensures says { λ r. ⌜ check-of r ≡ depth-check depth ⌝ }
+    ensures hands { λ r. ⌜ Hands r (λ n. n ≡ depth) ⌝ }
+{
+    if depth < 1 || depth > MOST_DEPTH { Err(Refusal::Depth) } else { Ok(depth) }
 }
