@@ -1,3 +1,4 @@
 pub mod Sections
 pub mod Round
 pub mod Searches
+pub mod Recorded

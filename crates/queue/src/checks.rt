@@ -9,7 +9,6 @@ ghost use Rattle.queue.specs.Layout.{event-length, landed-at, most-waiting, qu
 ghost use Rattle.queue.specs.Numbers.{waiting-in};
 ghost use Rattle.queue.specs.Refusals.{Hands, benches-check, check-of, count-check, counts-check, depth-check, event-check, length-check, number-check, over, overlong, parts-check, records-check, requests-check, room-check, runs-check, sums-check, waits-check, withdraw-kind};
 ghost use Rattle.std.specs.declared.option.Option.the-variants.{Some};
-
 use super::counts::Counts;
 use super::kind::Kind;
 use super::layout::*;
@@ -161,7 +160,14 @@ pub fn check_sums(queue: &[u64], counts: Counts) -> Result<Counts, Refusal>
 }
 
 // Of n runs in records from `base` on, the index of the first that begins with more landed changes than its part has.
-fn first_overlong(queue: &[u64], tally: &[u64; PARTS], landed: usize, base: usize, width: usize, n: usize) -> Option<usize>
+fn first_overlong(
+    queue: &[u64],
+    tally: &[u64; PARTS],
+    landed: usize,
+    base: usize,
+    width: usize,
+    n: usize,
+) -> Option<usize>
     requires fits { ⌜ base + width * n ≤ length (now queue) ⌝ }
     requires wide { ⌜ 1 < width ⌝ }
     requires inside { ⌜ landed-at + change-width * landed ≤ length (now queue) ⌝ }
@@ -187,10 +193,24 @@ pub fn check_runs(queue: &[u64], counts: Counts) -> Result<Counts, Refusal>
     ensures hands { λ r. ⌜ Hands r (λ n. n ≡ counts) ⌝ }
 {
     let tally = change::tally_parts(queue, LANDED_AT, counts.landed);
-    if let Some(at) = first_overlong(queue, &tally, counts.landed, VERDICTS_AT, VERDICT_WIDTH, counts.verdicts) {
+    if let Some(at) = first_overlong(
+        queue,
+        &tally,
+        counts.landed,
+        VERDICTS_AT,
+        VERDICT_WIDTH,
+        counts.verdicts,
+    ) {
         return Err(Refusal::Malformed(at as u64));
     }
-    if let Some(at) = first_overlong(queue, &tally, counts.landed, RUNNING_AT, RUN_WIDTH, counts.running) {
+    if let Some(at) = first_overlong(
+        queue,
+        &tally,
+        counts.landed,
+        RUNNING_AT,
+        RUN_WIDTH,
+        counts.running,
+    ) {
         return Err(Refusal::Malformed(at as u64));
     }
     Ok(counts)
@@ -201,7 +221,11 @@ pub fn check_benches(benches: u64) -> Result<u64, Refusal>
     ensures says { λ r. ⌜ check-of r ≡ benches-check benches ⌝ }
     ensures hands { λ r. ⌜ Hands r (λ n. n ≡ benches) ⌝ }
 {
-    if benches < 1 || benches > MOST_BENCHES { Err(Refusal::Benches) } else { Ok(benches) }
+    if benches < 1 || benches > MOST_BENCHES {
+        Err(Refusal::Benches)
+    } else {
+        Ok(benches)
+    }
 }
 
 // Some of those that wait are looked at, and not too many.
@@ -209,7 +233,11 @@ pub fn check_depth(depth: u64) -> Result<u64, Refusal>
     ensures says { λ r. ⌜ check-of r ≡ depth-check depth ⌝ }
     ensures hands { λ r. ⌜ Hands r (λ n. n ≡ depth) ⌝ }
 {
-    if depth < 1 || depth > MOST_DEPTH { Err(Refusal::Depth) } else { Ok(depth) }
+    if depth < 1 || depth > MOST_DEPTH {
+        Err(Refusal::Depth)
+    } else {
+        Ok(depth)
+    }
 }
 
 // The event is long enough, of a known kind, and its number is small enough.
@@ -303,5 +331,9 @@ pub fn check_requests(queue: &[u64]) -> Result<u64, Refusal>
     ensures hands { λ r. ⌜ Hands r (λ n. n ≡ getD (now (queue .entry)) requested-at 0) ⌝ }
 {
     let requested = queue[REQUESTED_AT];
-    if requested >= NUMBER_LIMIT { Err(Refusal::RequestsSpent) } else { Ok(requested) }
+    if requested >= NUMBER_LIMIT {
+        Err(Refusal::RequestsSpent)
+    } else {
+        Ok(requested)
+    }
 }

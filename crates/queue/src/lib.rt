@@ -4,6 +4,7 @@ mod counts;
 mod kind;
 mod laws;
 mod layout;
+mod recording;
 mod reply;
 
 pub use laws::decode_of_encode;
