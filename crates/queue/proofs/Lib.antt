@@ -2,3 +2,5 @@ pub mod Sections
 pub mod Round
 pub mod Searches
 pub mod Recorded
+pub mod Replies
+pub mod Opened
