@@ -1,20 +1,20 @@
 // Where two things are wrong at once, the first of the list answers; a refusal leaves every number as it was.
 use change::CHANGE_WIDTH;
-use queue::BENCHES_AT;
-use queue::DEPTH_AT;
-use queue::LANDED_AT;
-use queue::LANDED_COUNT;
-use queue::QUEUE_LENGTH;
-use queue::REJECTED_AT;
-use queue::REJECTED_COUNT;
-use queue::REQUESTED_AT;
-use queue::RUNNING_AT;
-use queue::RUNNING_COUNT;
 use queue::Reply;
-use queue::VERDICTS_AT;
-use queue::VERDICTS_COUNT;
-use queue::WAITING_AT;
-use queue::WAITING_COUNT;
+use run::BENCHES_AT;
+use run::DEPTH_AT;
+use run::LANDED_AT;
+use run::LANDED_COUNT;
+use run::QUEUE_LENGTH;
+use run::REJECTED_AT;
+use run::REJECTED_COUNT;
+use run::REQUESTED_AT;
+use run::RUNNING_AT;
+use run::RUNNING_COUNT;
+use run::VERDICTS_AT;
+use run::VERDICTS_COUNT;
+use run::WAITING_AT;
+use run::WAITING_COUNT;
 use std::test::*;
 
 // So many numbers of a queue are lent; these are written over it; the event; the refusal's number and place.
