@@ -1,0 +1,6 @@
+pub mod Basics
+pub mod Serial
+pub mod Pass
+pub mod Marks
+pub mod Days
+pub mod Main
