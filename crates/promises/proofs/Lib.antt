@@ -4,3 +4,4 @@ pub mod Pass
 pub mod Marks
 pub mod Days
 pub mod Main
+pub mod Tested

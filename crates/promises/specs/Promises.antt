@@ -1,14 +1,13 @@
 -- What every day comes to. Each is a statement whose proof stands behind the function of its name. Assumes nothing.
 use mathlib.Core.Path.{_≡_}
-use mathlib.Core.Bool.{Bool, true, false}
-use mathlib.Core.List.{List, [], _∷_, _++_}
-use Prim.Native.Nat.{ℕ, zero, suc, _+_, _*_, _≤_, _<_}
+use mathlib.Core.Bool.{true}
+use mathlib.Core.List.{List, []}
+use Prim.Native.Nat.{ℕ, suc, _<_}
 use lib.ListN.{length, getD, take}
 use Rattle.change.specs.Change.{Change, has, line, numbered}
-use Rattle.run.specs.Run.{Run, Verdict}
 use Rattle.serial.specs.Serial.{Bench, serial-landed, serial-rejected}
-use Rattle.queue.specs.Queue.{Config, Queue, Event, empty, replayed}
-use Rattle.promises.specs.Day.{Log, logged, Truthful, said-good, not-waiting}
+use Rattle.queue.specs.Queue.{Config, empty, Event, replayed}
+use Rattle.promises.specs.Day.{logged, Truthful, said-good, not-waiting}
 
 -- THE MAIN PROMISE. If every report that is taken is what the bench says, then the decisions are those of serial testing. Take the changes that were
 -- submitted and not withdrawn, in the order of their arrival, less those that still wait, and test them one at a time: on every part the same changes
@@ -21,3 +20,12 @@ Serial-equivalence =
     ((p : ℕ) → line p (q .landed) ≡ line p (serial-landed bench [] cs))
     × ((n : ℕ) → numbered n (q .landed) ≡ numbered n (serial-landed bench [] cs))
     × ((n : ℕ) → numbered n (q .rejected) ≡ numbered n (serial-rejected bench [] cs))
+
+-- Take any change of the main line and any part that it touches. The part, with exactly those changes that touch it up to this one, was run, and a report
+-- that was taken said good of it. Nothing is assumed of the benches.
+abbrev pub Every-state-tested : Type 0
+Every-state-tested =
+    (t : Config) (es : List Event) (k p : ℕ) (c : Change) →
+    let q = replayed t empty es in
+    k < length (q .landed) → has (getD (q .landed) k c .parts) p ≡ true →
+    said-good (record { part = p; changes = line p (take (suc k) (q .landed)) }) (logged t es .reports) ≡ true
