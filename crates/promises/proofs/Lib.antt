@@ -5,3 +5,4 @@ pub mod Marks
 pub mod Days
 pub mod Main
 pub mod Tested
+pub mod Final

@@ -6,7 +6,7 @@ use Prim.Native.Nat.{ℕ, suc, _<_}
 use lib.ListN.{length, getD, take}
 use Rattle.change.specs.Change.{Change, has, line, numbered}
 use Rattle.serial.specs.Serial.{Bench, serial-landed, serial-rejected}
-use Rattle.queue.specs.Queue.{Config, empty, Event, replayed}
+use Rattle.queue.specs.Queue.{Config, Queue, empty, Event, replayed}
 use Rattle.promises.specs.Day.{logged, Truthful, said-good, not-waiting}
 
 -- THE MAIN PROMISE. If every report that is taken is what the bench says, then the decisions are those of serial testing. Take the changes that were
@@ -29,3 +29,22 @@ Every-state-tested =
     let q = replayed t empty es in
     k < length (q .landed) → has (getD (q .landed) k c .parts) p ≡ true →
     said-good (record { part = p; changes = line p (take (suc k) (q .landed)) }) (logged t es .reports) ≡ true
+
+-- What is decided stays decided: whatever queue a day begins with, the changes that landed keep their places, and so do the rejected.
+abbrev pub Decisions-final : Type 0
+Decisions-final =
+    (t : Config) (q : Queue) (es : List Event) →
+    let r = replayed t q es in
+    (take (length (q .landed)) (r .landed) ≡ q .landed) × (take (length (q .rejected)) (r .rejected) ≡ q .rejected)
+
+-- One bench or many, little depth or much: two days with the same arrivals and truthful reports come to the same once nobody waits, in whatever order
+-- things happened in each. Every part has the same line, the same changes landed, and the same were rejected.
+abbrev pub Config-independent : Type 0
+Config-independent =
+    (bench : Bench) (s t : Config) (es fs : List Event) → Truthful bench (logged s es .reports) → Truthful bench (logged t fs .reports) →
+    let q = replayed s empty es in
+    let r = replayed t empty fs in
+    q .waiting ≡ [] → r .waiting ≡ [] → logged s es .arrivals ≡ logged t fs .arrivals →
+    ((p : ℕ) → line p (q .landed) ≡ line p (r .landed))
+    × ((n : ℕ) → numbered n (q .landed) ≡ numbered n (r .landed))
+    × ((n : ℕ) → numbered n (q .rejected) ≡ numbered n (r .rejected))

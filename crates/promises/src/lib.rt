@@ -1,5 +1,5 @@
 // The promises of whole days, each the contract of a function.
-ghost use Rattle.promises.specs.Promises.{Serial-equivalence, Every-state-tested};
+ghost use Rattle.promises.specs.Promises.{Serial-equivalence, Every-state-tested, Decisions-final, Config-independent};
 
 pub fn serial_equivalence() -> u8
     ensures { λ _. ⌜ Serial-equivalence ⌝ }
@@ -9,6 +9,18 @@ pub fn serial_equivalence() -> u8
 
 pub fn every_state_tested() -> u8
     ensures { λ _. ⌜ Every-state-tested ⌝ }
+{
+    0
+}
+
+pub fn decisions_final() -> u8
+    ensures { λ _. ⌜ Decisions-final ⌝ }
+{
+    0
+}
+
+pub fn config_independent() -> u8
+    ensures { λ _. ⌜ Config-independent ⌝ }
 {
     0
 }
