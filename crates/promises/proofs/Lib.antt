@@ -6,3 +6,6 @@ pub mod Days
 pub mod Main
 pub mod Tested
 pub mod Final
+pub mod Runs
+pub mod Useful
+pub mod Held

@@ -359,7 +359,7 @@ sound-leave f n (wait c ∷ m) xs ws k = go (sound-leave f n m xs (ws ++ c ∷ [
 sound-leave f n (land d ∷ m) xs ws k = (k .0, sound-leave f n m (xs ++ d ∷ []) ws (k .1))
 sound-leave f n (reject d ∷ m) xs ws k = (k .0, sound-leave f n m xs ws (k .1))
 
-numbered-dropped : (i n : ℕ) (cs : List Change) → numbered i cs ≡ false → numbered i (dropped n cs) ≡ false
+pub numbered-dropped : (i n : ℕ) (cs : List Change) → numbered i cs ≡ false → numbered i (dropped n cs) ≡ false
 numbered-dropped i n [] e = e
 numbered-dropped i n (c ∷ cs) e = go (numbered-dropped i n cs (neither-right (eqb (c .number) i) (numbered i cs) e)) (eqb (c .number) n)
   where

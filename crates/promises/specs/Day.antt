@@ -1,15 +1,16 @@
 -- What is written down of a day, and the words in which the promises are stated. Assumes nothing: these are definitions.
 use mathlib.Core.Path.{_≡_}
-use mathlib.Core.Bool.{Bool, true, false, cond, _||_, _&&_, not}
-use mathlib.Core.List.{List, [], _∷_, _++_}
-use Prim.Native.Nat.{ℕ, _+_}
+use mathlib.Core.Bool.{Bool, false, cond, _||_, _&&_, not}
+use mathlib.Core.List.{List, [], _∷_, _++_, map}
+use Prim.Native.Nat.{ℕ, _+_, _≤_}
 use lib.ListN.{length, getD}
 use Rattle.std.specs.shelf.Lists.{All}
-use Rattle.change.specs.Change.{Change, numbered, dropped}
+use Rattle.change.specs.Change.{Change, line, numbered, dropped}
 use Rattle.run.specs.Run.{Run, Verdict, same-run}
 use Rattle.serial.specs.Serial.{Bench}
 use Rattle.plan.specs.Plan.{among, kept}
-use Rattle.queue.specs.Queue.{Config, Queue, Event, submit, withdraw, report, empty, no-run, accepts, step, after}
+use Rattle.queue.specs.Queue.{Config, Queue, empty, Event, submit, withdraw, report, accepts, no-run, step, after}
+use Rattle.queue.specs.WorkedDay.{run}
 
 -- what a witness writes down of the events that are taken
 pub record Log : Type 0 where
@@ -71,3 +72,23 @@ said-good r (v ∷ vs) = same-run r (v .run) && v .good || said-good r vs
 abbrev pub not-waiting : List Change → List Change → List Change
 not-waiting [] ws = []
 not-waiting (c ∷ cs) ws = cond (numbered (c .number) ws) (not-waiting cs ws) (c ∷ not-waiting cs ws)
+
+-- the runs that are known or running
+abbrev pub held : Queue → List Run
+held q = map (λ v. v .run) (q .verdicts) ++ q .running
+
+-- no run stands in the list twice
+abbrev pub Different : List Run → Type 0
+Different [] = Unit {0}
+Different (r ∷ rs) = (among r rs ≡ false) × Different rs
+
+-- how many parts these changes touch, counted for each change
+abbrev pub parts-in : List Change → ℕ
+parts-in [] = 0
+parts-in (c ∷ cs) = length (c .parts) + parts-in cs
+
+-- the run is its part's whole landed line, and then at most so many changes
+pub record Begins (landed : List Change) (most : ℕ) (r : Run) : Type 0 where
+  pub following : List ℕ
+  pub is : r .changes ≡ line (r .part) landed ++ following
+  pub few : length following ≤ most

@@ -2,12 +2,14 @@
 use mathlib.Core.Path.{_≡_}
 use mathlib.Core.Bool.{true}
 use mathlib.Core.List.{List, []}
-use Prim.Native.Nat.{ℕ, suc, _<_}
+use Prim.Native.Nat.{ℕ, suc, _≤_, _<_}
 use lib.ListN.{length, getD, take}
+use Rattle.std.specs.shelf.Lists.{All}
 use Rattle.change.specs.Change.{Change, has, line, numbered}
 use Rattle.serial.specs.Serial.{Bench, serial-landed, serial-rejected}
-use Rattle.queue.specs.Queue.{Config, Queue, empty, Event, replayed}
-use Rattle.promises.specs.Day.{logged, Truthful, said-good, not-waiting}
+use Rattle.plan.specs.Plan.{among}
+use Rattle.queue.specs.Queue.{Config, Queue, empty, Event, useful-in, replayed}
+use Rattle.promises.specs.Day.{logged, Truthful, said-good, not-waiting, held, Different}
 
 -- THE MAIN PROMISE. If every report that is taken is what the bench says, then the decisions are those of serial testing. Take the changes that were
 -- submitted and not withdrawn, in the order of their arrival, less those that still wait, and test them one at a time: on every part the same changes
@@ -48,3 +50,17 @@ Config-independent =
     ((p : ℕ) → line p (q .landed) ≡ line p (r .landed))
     × ((n : ℕ) → numbered n (q .landed) ≡ numbered n (r .landed))
     × ((n : ℕ) → numbered n (q .rejected) ≡ numbered n (r .rejected))
+
+-- At most as many runs run as there are benches. Each run that is running or known is useful, and none of them is running or known twice, or both.
+abbrev pub Only-useful-runs : Type 0
+Only-useful-runs =
+    (t : Config) (es : List Event) →
+    let q = replayed t empty es in
+    (length (q .running) ≤ t .benches) × All (λ r. among r (useful-in t q) ≡ true) (held q) × Different (held q)
+
+-- A bench stands idle only if every useful run is running or known.
+abbrev pub Fully-booked : Type 0
+Fully-booked =
+    (t : Config) (es : List Event) →
+    let q = replayed t empty es in
+    length (q .running) < t .benches → All (λ r. among r (held q) ≡ true) (useful-in t q)
