@@ -232,7 +232,7 @@ filled b vs us still d l = request-keeps b vs us (Filled b (known vs) still us)
     us still (λ r e. e) (record { new = []; is = sym (append-nil still); useful = λ r e. absurd (true≢false (sym e)); different = d; few = l })
 
 -- while a bench is free, every useful run is requested
-booked : (b : ℕ) (vs : List Verdict) (us rs : List Run) → length (request b vs rs us) < b → Sub (known vs ++ rs) (known vs ++ request b vs rs us) × Sub us (known vs ++ request b vs rs us)
+pub booked : (b : ℕ) (vs : List Verdict) (us rs : List Run) → length (request b vs rs us) < b → Sub (known vs ++ rs) (known vs ++ request b vs rs us) × Sub us (known vs ++ request b vs rs us)
 unfolding request
 booked b vs [] rs l = (λ r e. e, λ r e. absurd (true≢false (sym e)))
 booked b vs (u ∷ us) rs l = go (ltb (length rs) b && lacks vs rs u) refl l (booked b vs us)

@@ -9,3 +9,4 @@ pub mod Final
 pub mod Runs
 pub mod Useful
 pub mod Held
+pub mod Idle

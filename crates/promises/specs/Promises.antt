@@ -1,12 +1,15 @@
 -- What every day comes to. Each is a statement whose proof stands behind the function of its name. Assumes nothing.
 use mathlib.Core.Path.{_≡_}
-use mathlib.Core.Bool.{true}
-use mathlib.Core.List.{List, []}
+use mathlib.Core.Bool.{true, false}
+use mathlib.Core.List.{List, [], _∷_, _++_}
 use Prim.Native.Nat.{ℕ, suc, _≤_, _<_}
 use lib.ListN.{length, getD, take}
 use Rattle.std.specs.shelf.Lists.{All}
+use Rattle.run.specs.declared.known.Known.the-variants.{Nothing}
 use Rattle.change.specs.Change.{Change, has, line, numbered}
+use Rattle.run.specs.Run.{heard, run-on, runs-on}
 use Rattle.serial.specs.Serial.{Bench, serial-landed, serial-rejected}
+use Rattle.decide.specs.Decide.{any-bad, shares-any}
 use Rattle.plan.specs.Plan.{among}
 use Rattle.queue.specs.Queue.{Config, Queue, empty, Event, useful-in, replayed}
 use Rattle.promises.specs.Day.{logged, Truthful, said-good, not-waiting, held, Different}
@@ -64,3 +67,20 @@ Fully-booked =
     (t : Config) (es : List Event) →
     let q = replayed t empty es in
     length (q .running) < t .benches → All (λ r. among r (held q) ≡ true) (useful-in t q)
+
+-- While a change waits, a run is running.
+abbrev pub Never-idle : Type 0
+Never-idle =
+    (t : Config) (es : List Event) → 0 < t .benches → 0 < t .depth →
+    let q = replayed t empty es in
+    0 < length (q .waiting) → 0 < length (q .running)
+
+-- A change that shares no part with one that waits before it waits only for its own runs on top of what has landed: nothing is known of one of them, and
+-- none of them is known to be bad.
+abbrev pub Decided-when-known : Type 0
+Decided-when-known =
+    (t : Config) (es : List Event) (before : List Change) (c : Change) (rest : List Change) →
+    let q = replayed t empty es in
+    q .waiting ≡ before ++ c ∷ rest → shares-any c before ≡ false →
+    ((p : ℕ) × (has (c .parts) p ≡ true) × (heard (run-on (q .landed) (c .number) p) (q .verdicts) ≡ Nothing))
+    × (any-bad (runs-on (q .landed) (c .number) (c .parts)) (q .verdicts) ≡ false)

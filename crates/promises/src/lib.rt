@@ -1,5 +1,5 @@
 // The promises of whole days, each the contract of a function.
-ghost use Rattle.promises.specs.Promises.{Serial-equivalence, Every-state-tested, Decisions-final, Config-independent, Only-useful-runs};
+ghost use Rattle.promises.specs.Promises.{Serial-equivalence, Every-state-tested, Decisions-final, Config-independent, Only-useful-runs, Fully-booked, Never-idle, Decided-when-known};
 
 pub fn serial_equivalence() -> u8
     ensures { λ _. ⌜ Serial-equivalence ⌝ }
@@ -27,6 +27,24 @@ pub fn config_independent() -> u8
 
 pub fn only_useful_runs() -> u8
     ensures { λ _. ⌜ Only-useful-runs ⌝ }
+{
+    0
+}
+
+pub fn fully_booked() -> u8
+    ensures { λ _. ⌜ Fully-booked ⌝ }
+{
+    0
+}
+
+pub fn never_idle() -> u8
+    ensures { λ _. ⌜ Never-idle ⌝ }
+{
+    0
+}
+
+pub fn decided_when_known() -> u8
+    ensures { λ _. ⌜ Decided-when-known ⌝ }
 {
     0
 }
