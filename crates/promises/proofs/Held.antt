@@ -51,7 +51,7 @@ distinct-place (w ∷ W₁) c W₂ u =
 numbered-still : (n : ℕ) (W₁ : List Change) (c : Change) (W₂ : List Change) → numbered n (W₁ ++ W₂) ≡ true → numbered n (W₁ ++ c ∷ W₂) ≡ true
 numbered-still n W₁ c W₂ e = numbered-place n W₁ c W₂ ∙ ap (_||_ (eqb (c .number) n)) e ∙ or-true (eqb (c .number) n)
 
-neat-land : (L W₁ : List Change) (c : Change) (W₂ B : List Change) → Neat L (W₁ ++ c ∷ W₂) B → Neat (L ++ c ∷ []) (W₁ ++ W₂) B
+pub neat-land : (L W₁ : List Change) (c : Change) (W₂ B : List Change) → Neat L (W₁ ++ c ∷ W₂) B → Neat (L ++ c ∷ []) (W₁ ++ W₂) B
 neat-land L W₁ c W₂ B k = record {
   landed = all-push Proper L c (k .landed) (all-at Proper W₁ c W₂ (k .waiting));
   waiting = all-out Proper W₁ c W₂ (k .waiting);
@@ -62,7 +62,7 @@ neat-land L W₁ c W₂ B k = record {
       (k .apart n (numbered-still n W₁ c W₂ e));
 }
 
-neat-reject : (L W₁ : List Change) (c : Change) (W₂ B : List Change) → Neat L (W₁ ++ c ∷ W₂) B → Neat L (W₁ ++ W₂) (B ++ c ∷ [])
+pub neat-reject : (L W₁ : List Change) (c : Change) (W₂ B : List Change) → Neat L (W₁ ++ c ∷ W₂) B → Neat L (W₁ ++ W₂) (B ++ c ∷ [])
 neat-reject L W₁ c W₂ B k = record {
   landed = k .landed;
   waiting = all-out Proper W₁ c W₂ (k .waiting);
@@ -270,7 +270,7 @@ booked b vs (u ∷ us) rs l = go (ltb (length rs) b && lacks vs rs u) refl l (bo
         there (inr j) = not-false (among u (known vs ++ rs)) (sym (lacks-is vs rs u) ∙ j)
 
 -- PLANNING. Verdicts and running runs are kept by one test.
-kept-append : (test : Run → Bool) (xs ys : List Run) → kept test (xs ++ ys) ≡ kept test xs ++ kept test ys
+pub kept-append : (test : Run → Bool) (xs ys : List Run) → kept test (xs ++ ys) ≡ kept test xs ++ kept test ys
 kept-append test [] ys = refl
 kept-append test (x ∷ xs) ys = go (kept-append test xs ys) (test x)
   where
@@ -304,6 +304,7 @@ still-held-is t q = ap (λ (rs : List Run). rs ++ still-running (useful-in t q) 
 -- what planning makes of the runs held
 pub record Replanned (t : Config) (q p : Queue) : Type 0 where
   pub new : List Run
+  pub running-is : p .running ≡ still-running (useful-in t q) (q .running) ++ new
   pub held-is : held p ≡ still-held t q ++ new
   pub requested-is : p .requested ≡ q .requested + length new
   pub useful : Sub (held p) (useful-in t q)
@@ -314,6 +315,7 @@ pub replanned : (t : Config) (q : Queue) → Different (held q) → length (q .r
 unfolding planned
 replanned t q d l = record {
   new = k .new;
+  running-is = k .is;
   held-is = now;
   requested-is = omega (arith, ap length (k .is), length-append still (k .new));
   useful = λ r e. elim (among-cases r (still-held t q) (k .new) (ap (among r) (sym now) ∙ e)) [
@@ -362,23 +364,22 @@ pub ready : (t : Config) (q : Queue) (e : Event) → accepts t q e ≡ true → 
 unfolding step decided
 ready t q e a o = replanned t (decided (recorded q e)) (moved t q e a .different (o .different)) (few-recorded (t .benches) q e (o .few))
 
-planned-changes : (t : Config) (q : Queue) → (planned t q .landed ≡ q .landed) × (planned t q .waiting ≡ q .waiting) × (planned t q .rejected ≡ q .rejected)
-unfolding planned
-planned-changes t q = (refl, refl, refl)
-
-orderly-step : (t : Config) (q : Queue) (e : Event) → accepts t q e ≡ true → Orderly t q → Orderly t (step t q e)
+pub orderly-step : (t : Config) (q : Queue) (e : Event) → accepts t q e ≡ true → Orderly t q → Orderly t (step t q e)
 unfolding step planned
 orderly-step t q e a o =
     let k = ready t q e a o in
     record { neat = neat-decided (recorded q e) (neat-recorded t q e a (o .neat)); useful = k .useful; different = k .different; few = k .few }
 
-pub orderly : (t : Config) (es : List Event) → Orderly t (replayed t empty es)
-orderly t es = day-keeps t (Orderly t) (orderly-step t) es empty (record {
+pub orderly-empty : (t : Config) → Orderly t empty
+orderly-empty t = record {
   neat = record { landed = tt; waiting = tt; rejected = tt; distinct = tt; apart = λ n e. refl };
   useful = λ r e. absurd (true≢false (sym e));
   different = tt;
   few = omega arith;
-})
+}
+
+pub orderly : (t : Config) (es : List Event) → Orderly t (replayed t empty es)
+orderly t es = day-keeps t (Orderly t) (orderly-step t) es empty (orderly-empty t)
 
 pub only-useful-runs : Only-useful-runs
 only-useful-runs t es =

@@ -10,3 +10,4 @@ pub mod Runs
 pub mod Useful
 pub mod Held
 pub mod Idle
+pub mod Count

@@ -2,17 +2,17 @@
 use mathlib.Core.Path.{_≡_}
 use mathlib.Core.Bool.{true, false}
 use mathlib.Core.List.{List, [], _∷_, _++_}
-use Prim.Native.Nat.{ℕ, suc, _≤_, _<_}
+use Prim.Native.Nat.{ℕ, suc, _+_, _*_, _≤_, _<_}
 use lib.ListN.{length, getD, take}
 use Rattle.std.specs.shelf.Lists.{All}
 use Rattle.run.specs.declared.known.Known.the-variants.{Nothing}
-use Rattle.change.specs.Change.{Change, has, line, numbered}
+use Rattle.change.specs.Change.{most-parts, Change, has, line, numbered}
 use Rattle.run.specs.Run.{heard, run-on, runs-on}
 use Rattle.serial.specs.Serial.{Bench, serial-landed, serial-rejected}
 use Rattle.decide.specs.Decide.{any-bad, shares-any}
 use Rattle.plan.specs.Plan.{among}
 use Rattle.queue.specs.Queue.{Config, Queue, empty, Event, useful-in, replayed}
-use Rattle.promises.specs.Day.{logged, Truthful, said-good, not-waiting, held, Different}
+use Rattle.promises.specs.Day.{logged, Truthful, said-good, not-waiting, held, Different, parts-in}
 
 -- THE MAIN PROMISE. If every report that is taken is what the bench says, then the decisions are those of serial testing. Take the changes that were
 -- submitted and not withdrawn, in the order of their arrival, less those that still wait, and test them one at a time: on every part the same changes
@@ -84,3 +84,21 @@ Decided-when-known =
     q .waiting ≡ before ++ c ∷ rest → shares-any c before ≡ false →
     ((p : ℕ) × (has (c .parts) p ≡ true) × (heard (run-on (q .landed) (c .number) p) (q .verdicts) ≡ Nothing))
     × (any-bad (runs-on (q .landed) (c .number) (c .parts)) (q .verdicts) ≡ false)
+
+-- Every run requested counts for a part of a change that landed, except that each rejection and each withdrawal costs at most the runs of `depth` changes of
+-- eight parts, and as many may be under way.
+abbrev pub Waste-bounded : Type 0
+Waste-bounded =
+    (t : Config) (es : List Event) →
+    let q = replayed t empty es in
+    q .requested ≤ parts-in (q .landed) + (length (q .rejected) + logged t es .withdrawn + 1) * (most-parts * t .depth)
+
+-- The count of requested runs is that of the runs the log has. If nothing is rejected or withdrawn, no run is requested twice, at one event or at two, at most
+-- one is requested for each part of a change that landed or waits, and exactly one for each once nobody waits.
+abbrev pub Each-run-once : Type 0
+Each-run-once =
+    (t : Config) (es : List Event) →
+    let q = replayed t empty es in
+    (q .requested ≡ length (logged t es .requests))
+    × (length (q .rejected) ≡ 0 → logged t es .withdrawn ≡ 0 →
+    Different (logged t es .requests) × (q .requested ≤ parts-in (q .landed) + parts-in (q .waiting)) × (q .waiting ≡ [] → q .requested ≡ parts-in (q .landed)))

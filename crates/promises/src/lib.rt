@@ -1,5 +1,5 @@
 // The promises of whole days, each the contract of a function.
-ghost use Rattle.promises.specs.Promises.{Serial-equivalence, Every-state-tested, Decisions-final, Config-independent, Only-useful-runs, Fully-booked, Never-idle, Decided-when-known};
+ghost use Rattle.promises.specs.Promises.{Serial-equivalence, Every-state-tested, Decisions-final, Config-independent, Only-useful-runs, Fully-booked, Never-idle, Decided-when-known, Waste-bounded, Each-run-once};
 
 pub fn serial_equivalence() -> u8
     ensures { λ _. ⌜ Serial-equivalence ⌝ }
@@ -45,6 +45,18 @@ pub fn never_idle() -> u8
 
 pub fn decided_when_known() -> u8
     ensures { λ _. ⌜ Decided-when-known ⌝ }
+{
+    0
+}
+
+pub fn waste_bounded() -> u8
+    ensures { λ _. ⌜ Waste-bounded ⌝ }
+{
+    0
+}
+
+pub fn each_run_once() -> u8
+    ensures { λ _. ⌜ Each-run-once ⌝ }
 {
     0
 }
