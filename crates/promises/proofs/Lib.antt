@@ -11,3 +11,4 @@ pub mod Useful
 pub mod Held
 pub mod Idle
 pub mod Count
+pub mod Fit

@@ -11,8 +11,10 @@ use Rattle.run.specs.Run.{heard, run-on, runs-on}
 use Rattle.serial.specs.Serial.{Bench, serial-landed, serial-rejected}
 use Rattle.decide.specs.Decide.{any-bad, shares-any}
 use Rattle.plan.specs.Plan.{among}
+use Rattle.queue.specs.Layout.{most-landed, most-waiting, most-rejected, most-verdicts, most-benches, most-depth}
 use Rattle.queue.specs.Queue.{Config, Queue, empty, Event, useful-in, replayed}
-use Rattle.promises.specs.Day.{logged, Truthful, said-good, not-waiting, held, Different, parts-in}
+use Rattle.queue.specs.Numbers.{Fits}
+use Rattle.promises.specs.Day.{logged, Truthful, said-good, not-waiting, held, Different, parts-in, Begins}
 
 -- THE MAIN PROMISE. If every report that is taken is what the bench says, then the decisions are those of serial testing. Take the changes that were
 -- submitted and not withdrawn, in the order of their arrival, less those that still wait, and test them one at a time: on every part the same changes
@@ -102,3 +104,15 @@ Each-run-once =
     (q .requested ≡ length (logged t es .requests))
     × (length (q .rejected) ≡ 0 → logged t es .withdrawn ≡ 0 →
     Different (logged t es .requests) × (q .requested ≤ parts-in (q .landed) + parts-in (q .waiting)) × (q .waiting ≡ [] → q .requested ≡ parts-in (q .landed)))
+
+-- What is held stays within its sections. Verdicts and running runs together are at most eight for each change looked at, each is its part's whole landed line
+-- and at most `depth` more, and landed, waiting and rejected keep to their sections. With a depth of at most 16 fewer than 128 verdicts are held, so that one
+-- more always has room; with at most 16 benches too, the whole queue can be written as numbers.
+abbrev pub Verdicts-fit : Type 0
+Verdicts-fit =
+    (t : Config) (es : List Event) →
+    let q = replayed t empty es in
+    (length (q .verdicts) + length (q .running) ≤ most-parts * t .depth)
+    × All (Begins (q .landed) (t .depth)) (held q)
+    × (length (q .landed) ≤ most-landed) × (length (q .waiting) ≤ most-waiting) × (length (q .rejected) ≤ most-rejected)
+    × (t .depth ≤ most-depth → (length (q .verdicts) < most-verdicts) × (t .benches ≤ most-benches → Fits q))
