@@ -107,3 +107,7 @@ all-kept P test (x ∷ xs) h = go (all-kept P test xs (h .1)) (test x)
     go : All P (kept test xs) → (b : Bool) → All P (cond b (x ∷ kept test xs) (kept test xs))
     go ih true = (h .0, ih)
     go ih false = ih
+
+pub kept-all : {A : Type 0} (test : A → Bool) (xs : List A) → All (λ x. test x ≡ true) xs → kept test xs ≡ xs
+kept-all test [] h = refl
+kept-all test (x ∷ xs) h = ap (λ (b : Bool). cond b (x ∷ kept test xs) (kept test xs)) (h .0) ∙ ap (λ (r : List _). x ∷ r) (kept-all test xs (h .1))

@@ -19,12 +19,12 @@ use Rattle.plan.specs.Plan.{useful, among, kept, still-running}
 use Rattle.queue.specs.Queue.{Config, Queue, empty, Event, submit, withdraw, report, accepts, recorded, decided, useful-in, planned, step, replayed}
 use Rattle.promises.specs.Day.{Log, blank, withdrawn-by, new-runs, with-event, logged, held, Different, parts-in}
 use Rattle.promises.specs.Promises.{Waste-bounded, Each-run-once}
-use Rattle.promises.proofs.Basics.{clash, neither-right, both-left, both-right, numbered-push}
+use Rattle.promises.proofs.Basics.{clash, neither-right, both-left, both-right, numbered-push, kept-all}
 use Rattle.promises.proofs.Serial.{all-at}
 use Rattle.promises.proofs.Pass.{Lands, Rejects, pass-all}
 use Rattle.promises.proofs.Marks.{ended, numbered-place}
 use Rattle.promises.proofs.Days.{log-keeps}
-use Rattle.promises.proofs.Runs.{not-so, among-head, among-append, among-left, among-right, among-cases, among-one, Sub, among-kept, different-kept, different-append, pigeons}
+use Rattle.promises.proofs.Runs.{not-so, among-head, among-append, among-left, among-right, among-cases, among-one, Sub, all-from, among-kept, different-kept, different-append, pigeons}
 use Rattle.promises.proofs.Useful.{Proper, length-runs-on, useful-more, useful-land, last, runs-last, useful-last, different-runs, useful-few, useful-parts}
 use Rattle.promises.proofs.Held.{Neat, neat-land, neat-reject, neat-recorded, known, unknown-is, moved, kept-append, still-held, Replanned, Orderly, ready, orderly-step, orderly-empty, orderly}
 use Rattle.promises.proofs.Idle.{useful-none}
@@ -198,10 +198,6 @@ kept-none : (test : Run → Bool) (rs : List Run) → ((r : Run) → among r rs 
 kept-none test [] k = refl
 kept-none test (r ∷ rs) k = ap (λ (b : Bool). cond b (r ∷ kept test rs) (kept test rs)) (k r (among-head r rs)) ∙ kept-none test rs (λ s e. k s (among-right s (r ∷ []) rs e))
 
-kept-whole : (test : Run → Bool) (rs : List Run) → ((r : Run) → among r rs ≡ true → test r ≡ true) → kept test rs ≡ rs
-kept-whole test [] k = refl
-kept-whole test (r ∷ rs) k = ap (λ (b : Bool). cond b (r ∷ kept test rs) (kept test rs)) (k r (among-head r rs)) ∙ ap (λ (xs : List Run). r ∷ xs) (kept-whole test rs (λ s e. k s (among-right s (r ∷ []) rs e)))
-
 different-apart : (xs ys : List Run) → Different (xs ++ ys) → (r : Run) → among r xs ≡ true → among r ys ≡ false
 different-apart [] ys d r e = absurd (true≢false (sym e))
 different-apart (x ∷ xs) ys d r e = elim (among-cases r (x ∷ []) xs e) [
@@ -238,7 +234,7 @@ requests-are : (t : Config) (q : Queue) (e : Event) → accepts t q e ≡ true �
 requests-are t q e a k =
     ap (kept test) (k .running-is) ∙ kept-append test still (k .new)
     ∙ ap₂ _++_ (kept-none test still (λ r h. ap not (running-sub q e r (both-right (among r us) (among r (p .running)) (sym (among-kept (λ s. among s us) r (p .running)) ∙ h)))))
-    (kept-whole test (k .new) (λ r h. ap not (neither-right (among r (known (q .verdicts))) (among r (q .running)) (sym (among-append r (known (q .verdicts)) (q .running)) ∙ new-not-held t q e a k r h))))
+    (kept-all test (k .new) (all-from (λ r. test r ≡ true) (k .new) (λ r h. ap not (neither-right (among r (known (q .verdicts))) (among r (q .running)) (sym (among-append r (known (q .verdicts)) (q .running)) ∙ new-not-held t q e a k r h)))))
   where
     p : Queue
     p = decided (recorded q e)

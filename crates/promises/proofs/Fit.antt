@@ -24,7 +24,7 @@ use Rattle.promises.specs.Promises.{Verdicts-fit}
 use Rattle.promises.proofs.Basics.{neither-left, both-left, both-right, all-both}
 use Rattle.promises.proofs.Pass.{pass-all}
 use Rattle.promises.proofs.Days.{day-keeps}
-use Rattle.promises.proofs.Runs.{among-append, among-left, among-cases, among-one, sub-all, length-place, pigeons}
+use Rattle.promises.proofs.Runs.{among-append, among-left, among-cases, among-one, all-from, length-place, pigeons}
 use Rattle.promises.proofs.Useful.{Proper, useful-few, useful-begin}
 use Rattle.promises.proofs.Held.{known, Orderly, orderly}
 use Rattle.promises.proofs.Idle.{useful-none, next-run}
@@ -131,14 +131,14 @@ few-verdicts t es d = go (cases-lt 0 (t .depth)) (cases-lt 0 (length (q .waiting
               ]),
         )
 
-all-verdicts : (P : Run → Type 0) (vs : List Verdict) → All P (known vs) → All (λ v. P (v .run)) vs
+pub all-verdicts : (P : Run → Type 0) (vs : List Verdict) → All P (known vs) → All (λ v. P (v .run)) vs
 all-verdicts P [] a = tt
 all-verdicts P (v ∷ vs) a = (a .0, all-verdicts P vs (a .1))
 
 begins-day : (t : Config) (es : List Event) → All (Begins (replayed t empty es .landed) (t .depth)) (held (replayed t empty es))
 begins-day t es =
     let q = replayed t empty es in
-    all-weaker (λ r. among r (useful-in t q) ≡ true) (Begins (q .landed) (t .depth)) (λ r e. useful-begin (t .depth) (q .landed) (q .waiting) r e) (held q) (sub-all (held q) (useful-in t q) (orderly t es .useful))
+    all-from (Begins (q .landed) (t .depth)) (held q) (λ r e. useful-begin (t .depth) (q .landed) (q .waiting) r (orderly t es .useful r e))
 
 pub fits-day : (t : Config) (es : List Event) → t .depth ≤ most-depth → t .benches ≤ most-benches → Fits (replayed t empty es)
 fits-day t es d b = record {

@@ -25,7 +25,7 @@ use Rattle.promises.proofs.Serial.{all-out, all-at}
 use Rattle.promises.proofs.Pass.{pass-all}
 use Rattle.promises.proofs.Marks.{numbered-place, Distinct, distinct-push, numbered-dropped, distinct-dropped}
 use Rattle.promises.proofs.Days.{day-keeps, fresh-number}
-use Rattle.promises.proofs.Runs.{not-so, same-run-sym, among-head, among-append, among-left, among-right, among-cases, among-one, among-place, Sub, sub-all, among-kept, different-kept, different-push, length-place}
+use Rattle.promises.proofs.Runs.{not-so, same-run-sym, among-head, among-append, among-left, among-right, among-cases, among-one, among-place, Sub, all-from, among-kept, different-kept, different-push, length-place}
 use Rattle.promises.proofs.Useful.{Proper, proper-is}
 
 pub record Neat (L W B : List Change) : Type 0 where
@@ -384,4 +384,4 @@ orderly t es = day-keeps t (Orderly t) (orderly-step t) es empty (orderly-empty 
 pub only-useful-runs : Only-useful-runs
 only-useful-runs t es =
     let o = orderly t es in
-    (o .few, sub-all (held (replayed t empty es)) (useful-in t (replayed t empty es)) (o .useful), o .different)
+    (o .few, all-from (λ r. among r (useful-in t (replayed t empty es)) ≡ true) (held (replayed t empty es)) (o .useful), o .different)

@@ -24,7 +24,7 @@ use Rattle.promises.proofs.Serial.{Loose, Apart}
 use Rattle.promises.proofs.Pass.{same-run-is, shares-apart, Why-wait, for-parts, for-runs, pass-by}
 use Rattle.promises.proofs.Marks.{no-cons}
 use Rattle.promises.proofs.Days.{day-keeps}
-use Rattle.promises.proofs.Runs.{among-left, among-cases, Sub, sub-all}
+use Rattle.promises.proofs.Runs.{among-left, among-cases, Sub, all-from}
 use Rattle.promises.proofs.Useful.{runs-alike, among-runs}
 use Rattle.promises.proofs.Held.{known, unknown-is, booked}
 
@@ -186,7 +186,7 @@ booked-day : (t : Config) (es : List Event) → Booked t (replayed t empty es)
 booked-day t es = day-keeps t (Booked t) (λ q e a h. booked-step t q e) es empty (λ l r e. clash e (ap (among r) (useful-none (t .depth) [])))
 
 pub fully-booked : Fully-booked
-fully-booked t es l = sub-all (useful-in t (replayed t empty es)) (held (replayed t empty es)) (booked-day t es l)
+fully-booked t es l = all-from (λ r. among r (held (replayed t empty es)) ≡ true) (useful-in t (replayed t empty es)) (booked-day t es l)
 
 -- the first change that waits has a run that is useful and not known
 pub record Next-run (t : Config) (q : Queue) : Type 0 where

@@ -12,3 +12,4 @@ pub mod Held
 pub mod Idle
 pub mod Count
 pub mod Fit
+pub mod Falling

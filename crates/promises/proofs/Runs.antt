@@ -54,17 +54,9 @@ Sub xs ys = (r : Run) → among r xs ≡ true → among r ys ≡ true
 pub sub-none : (xs ys : List Run) → Sub xs ys → (r : Run) → among r ys ≡ false → among r xs ≡ false
 sub-none xs ys s r e = not-so (among r xs) (λ k. clash (s r k) e)
 
-pub sub-all : (xs ys : List Run) → Sub xs ys → All (λ r. among r ys ≡ true) xs
-sub-all [] ys s = tt
-sub-all (x ∷ xs) ys s = (s x (among-head x xs), sub-all xs ys (λ r e. s r (among-right r (x ∷ []) xs e)))
-
-pub all-sub : (xs ys : List Run) → All (λ r. among r ys ≡ true) xs → Sub xs ys
-all-sub [] ys a r e = absurd (true≢false (sym e))
-all-sub (x ∷ xs) ys a r e = go (all-sub xs ys (a .1) r) (same-run r x) refl e
-  where
-    go : (among r xs ≡ true → among r ys ≡ true) → (b : Bool) → same-run r x ≡ b → (b || among r xs) ≡ true → among r ys ≡ true
-    go ih true k h = ap (λ (s : Run). among s ys) (same-run-is r x k) ∙ a .0
-    go ih false k h = ih h
+pub all-from : (P : Run → Type 0) (xs : List Run) → ((r : Run) → among r xs ≡ true → P r) → All P xs
+all-from P [] k = tt
+all-from P (x ∷ xs) k = (k x (among-head x xs), all-from P xs (λ r e. k r (among-right r (x ∷ []) xs e)))
 
 -- a run is kept if it stood in the list and passes the test
 pub among-kept : (test : Run → Bool) (r : Run) (rs : List Run) → among r (kept test rs) ≡ (test r && among r rs)

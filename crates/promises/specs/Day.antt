@@ -1,15 +1,15 @@
 -- What is written down of a day, and the words in which the promises are stated. Assumes nothing: these are definitions.
 use mathlib.Core.Path.{_≡_}
-use mathlib.Core.Bool.{Bool, false, cond, _||_, _&&_, not}
+use mathlib.Core.Bool.{Bool, true, false, cond, _||_, _&&_, not}
 use mathlib.Core.List.{List, [], _∷_, _++_, map}
-use Prim.Native.Nat.{ℕ, _+_, _≤_}
+use Prim.Native.Nat.{ℕ, suc, _+_, _-_, _*_, _≤_}
 use lib.ListN.{length, getD}
 use Rattle.std.specs.shelf.Lists.{All}
-use Rattle.change.specs.Change.{Change, line, numbered, dropped}
+use Rattle.change.specs.Change.{most-parts, Change, line, numbered, dropped}
 use Rattle.run.specs.Run.{Run, Verdict, same-run}
 use Rattle.serial.specs.Serial.{Bench}
 use Rattle.plan.specs.Plan.{among, kept}
-use Rattle.queue.specs.Queue.{Config, Queue, empty, Event, submit, withdraw, report, accepts, no-run, step, after}
+use Rattle.queue.specs.Queue.{Config, Queue, empty, Event, submit, withdraw, report, accepts, no-run, useful-in, step, after}
 use Rattle.queue.specs.WorkedDay.{run}
 
 -- what a witness writes down of the events that are taken
@@ -92,3 +92,17 @@ pub record Begins (landed : List Change) (most : ℕ) (r : Run) : Type 0 where
   pub following : List ℕ
   pub is : r .changes ≡ line (r .part) landed ++ following
   pub few : length following ≤ most
+
+-- how far a queue is from having decided all: those that wait count most, then the useful runs of which nothing is known
+abbrev pub measure : Config → Queue → ℕ
+measure t q = length (q .waiting) * suc (most-parts * t .depth) + (length (useful-in t q) - length (q .verdicts))
+
+abbrev pub Not-submit : Event → Type 0
+Not-submit (submit c) = ⊥
+Not-submit (withdraw n) = Unit {0}
+Not-submit (report i g) = Unit {0}
+
+-- each of the events is taken in its turn, and none submits a change
+abbrev pub All-taken : Config → Queue → List Event → Type 0
+All-taken t q [] = Unit {0}
+All-taken t q (e ∷ es) = Not-submit e × (accepts t q e ≡ true) × All-taken t (after t q e) es

@@ -12,9 +12,9 @@ use Rattle.serial.specs.Serial.{Bench, serial-landed, serial-rejected}
 use Rattle.decide.specs.Decide.{any-bad, shares-any}
 use Rattle.plan.specs.Plan.{among}
 use Rattle.queue.specs.Layout.{most-landed, most-waiting, most-rejected, most-verdicts, most-benches, most-depth}
-use Rattle.queue.specs.Queue.{Config, Queue, empty, Event, useful-in, replayed}
+use Rattle.queue.specs.Queue.{Config, Queue, empty, Event, accepts, useful-in, after, replayed}
 use Rattle.queue.specs.Numbers.{Fits}
-use Rattle.promises.specs.Day.{logged, Truthful, said-good, not-waiting, held, Different, parts-in, Begins}
+use Rattle.promises.specs.Day.{logged, Truthful, said-good, not-waiting, held, Different, parts-in, Begins, measure, Not-submit, All-taken}
 
 -- THE MAIN PROMISE. If every report that is taken is what the bench says, then the decisions are those of serial testing. Take the changes that were
 -- submitted and not withdrawn, in the order of their arrival, less those that still wait, and test them one at a time: on every part the same changes
@@ -116,3 +116,12 @@ Verdicts-fit =
     × All (Begins (q .landed) (t .depth)) (held q)
     × (length (q .landed) ≤ most-landed) × (length (q .waiting) ≤ most-waiting) × (length (q .rejected) ≤ most-rejected)
     × (t .depth ≤ most-depth → (length (q .verdicts) < most-verdicts) × (t .benches ≤ most-benches → Fits q))
+
+-- Every report that is taken, and every withdrawal, makes a measure fall. So no more events can be taken than the measure says unless a change is submitted,
+-- and once so many were taken nobody waits. That there is a report to take while a change waits is Never-idle.
+abbrev pub Progress : Type 0
+Progress =
+    (t : Config) (es : List Event) →
+    let q = replayed t empty es in
+    ((e : Event) → Not-submit e → accepts t q e ≡ true → measure t (after t q e) < measure t q)
+    × ((fs : List Event) → All-taken t q fs → (length fs ≤ measure t q) × (measure t q ≤ length fs → replayed t q fs .waiting ≡ []))

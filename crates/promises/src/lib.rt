@@ -1,5 +1,5 @@
 // The promises of whole days, each the contract of a function.
-ghost use Rattle.promises.specs.Promises.{Serial-equivalence, Every-state-tested, Decisions-final, Config-independent, Only-useful-runs, Fully-booked, Never-idle, Decided-when-known, Waste-bounded, Each-run-once, Verdicts-fit};
+ghost use Rattle.promises.specs.Promises.{Serial-equivalence, Every-state-tested, Decisions-final, Config-independent, Only-useful-runs, Fully-booked, Never-idle, Decided-when-known, Waste-bounded, Each-run-once, Verdicts-fit, Progress};
 
 pub fn serial_equivalence() -> u8
     ensures { λ _. ⌜ Serial-equivalence ⌝ }
@@ -63,6 +63,12 @@ pub fn each_run_once() -> u8
 
 pub fn verdicts_fit() -> u8
     ensures { λ _. ⌜ Verdicts-fit ⌝ }
+{
+    0
+}
+
+pub fn progress() -> u8
+    ensures { λ _. ⌜ Progress ⌝ }
 {
     0
 }
