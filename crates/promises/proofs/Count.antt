@@ -1,5 +1,4 @@
 -- How many runs are requested: those of the changes that landed, those held, and a window for each change that is rejected or withdrawn. Assumes nothing.
--- what is known good is known
 use mathlib.Core.Path.{_≡_, refl, sym, ap, ap₂, subst, _∙_}
 use mathlib.Core.Bool.{Bool, true, false, cond, _||_, _&&_, not, or-true, true≢false}
 use mathlib.Core.List.{List, [], _∷_, _++_}
@@ -29,6 +28,7 @@ use Rattle.promises.proofs.Useful.{Proper, length-runs-on, useful-more, useful
 use Rattle.promises.proofs.Held.{Neat, neat-land, neat-reject, neat-recorded, known, unknown-is, moved, kept-append, still-held, Replanned, Orderly, ready, orderly-step, orderly-empty, orderly}
 use Rattle.promises.proofs.Idle.{useful-none}
 
+-- what is known good is known
 good-known : (vs : List Verdict) (rs : List Run) → all-good rs vs ≡ true → Sub rs (known vs)
 good-known vs [] e r h = absurd (true≢false (sym h))
 good-known vs (s ∷ rs) e r h = elim (among-cases r (s ∷ []) rs h) [

@@ -1,5 +1,4 @@
 -- Each event that is taken and submits nothing makes the measure fall. Assumes nothing.
--- after the pass fewer wait, or nothing has changed
 use mathlib.Core.Path.{_≡_, refl, sym, ap, ap₂, subst, _∙_}
 use mathlib.Core.Bool.{Bool, true, false, cond, _||_, true≢false}
 use mathlib.Core.List.{List, [], _∷_, _++_}
@@ -25,6 +24,7 @@ use Rattle.promises.proofs.Useful.{useful-few}
 use Rattle.promises.proofs.Held.{known, moved, Orderly, orderly-step, orderly}
 use Rattle.promises.proofs.Fit.{all-verdicts}
 
+-- after the pass fewer wait, or nothing has changed
 abbrev Fewer : List Change → List Change → List Change → List Change → List Change → Type 0
 Fewer L₀ W₀ L W B = (length W < length W₀) ⊎ ((L ≡ L₀) × (W ≡ W₀))
 

@@ -1,5 +1,4 @@
 -- What is decided stays decided, and the config does not matter once nobody waits. Assumes nothing.
--- L and B begin with what had landed and what was rejected
 use mathlib.Core.Path.{_≡_, refl, sym, ap, ap₂, _∙_}
 use mathlib.Core.List.{List, [], _∷_, _++_, append-nil, append-assoc}
 use lib.ListN.{length, take}
@@ -13,6 +12,7 @@ use Rattle.promises.proofs.Pass.{pass-all}
 use Rattle.promises.proofs.Days.{day-keeps}
 use Rattle.promises.proofs.Main.{serial-equivalence}
 
+-- L and B begin with what had landed and what was rejected
 record Since (L₀ B₀ L W B : List Change) : Type 0 where
   pub landed : List Change
   pub rejected : List Change

@@ -1,5 +1,4 @@
 -- What a reachable queue holds fits its sections. Assumes nothing.
--- as many as wait could land, and could be rejected
 use mathlib.Core.Path.{_≡_, sym, ap, subst, _∙_}
 use mathlib.Core.Bool.{Bool, true, false, cond, _&&_}
 use mathlib.Core.List.{List, [], _∷_, _++_}
@@ -30,6 +29,7 @@ use Rattle.promises.proofs.Held.{known, Orderly, orderly}
 use Rattle.promises.proofs.Idle.{useful-none, next-run}
 use Rattle.promises.proofs.Count.{held-few}
 
+-- as many as wait could land, and could be rejected
 record Roomy (L W B : List Change) : Type 0 where
   pub waiting : length W ≤ most-waiting
   pub landed : length L + length W ≤ most-landed

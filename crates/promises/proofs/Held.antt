@@ -1,5 +1,4 @@
 -- The changes of a reachable queue are proper and have numbers of their own; the runs that are known or running are useful and different ones. Assumes nothing.
--- CHANGES. L has landed, W waits, B was rejected.
 use mathlib.Core.Path.{_≡_, refl, sym, ap, ap₂, subst, _∙_}
 use mathlib.Core.Bool.{Bool, true, false, cond, _||_, _&&_, not, or-true, true≢false}
 use mathlib.Core.List.{List, [], _∷_, _++_, append-nil, append-assoc, map}
@@ -28,6 +27,7 @@ use Rattle.promises.proofs.Days.{day-keeps, fresh-number}
 use Rattle.promises.proofs.Runs.{not-so, same-run-sym, among-head, among-append, among-left, among-right, among-cases, among-one, among-place, Sub, all-from, among-kept, different-kept, different-push, length-place}
 use Rattle.promises.proofs.Useful.{Proper, proper-is}
 
+-- CHANGES. L has landed, W waits, B was rejected.
 pub record Neat (L W B : List Change) : Type 0 where
   pub landed : All Proper L
   pub waiting : All Proper W

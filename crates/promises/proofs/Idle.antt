@@ -1,5 +1,4 @@
 -- A change waits for its own runs only, every useful run is requested while a bench is free, and so no bench idles while a change waits. Assumes nothing.
--- WHY A CHANGE WAITS. No run on top of landed is known bad, and not all are known good.
 use mathlib.Core.Path.{_≡_, refl, sym, ap, subst, subst₂, _∙_}
 use mathlib.Core.Bool.{Bool, true, false, cond, _&&_, and-false, true≢false}
 use mathlib.Core.List.{List, [], _∷_, _++_, append-nil, append-assoc}
@@ -28,6 +27,7 @@ use Rattle.promises.proofs.Runs.{among-left, among-cases, Sub, all-from}
 use Rattle.promises.proofs.Useful.{runs-alike, among-runs}
 use Rattle.promises.proofs.Held.{known, unknown-is, booked}
 
+-- WHY A CHANGE WAITS. No run on top of landed is known bad, and not all are known good.
 abbrev Open : List Verdict → List Change → Change → Type 0
 Open ks L c = (any-bad (runs-on L (c .number) (c .parts)) ks ≡ false) × (all-good (runs-on L (c .number) (c .parts)) ks ≡ false)
 

@@ -13,3 +13,4 @@ pub mod Idle
 pub mod Count
 pub mod Fit
 pub mod Falling
+pub mod Excluded

@@ -1,5 +1,4 @@
 -- The main promise: the decisions are those of serial testing. Assumes nothing.
--- C arrived, L has landed, W waits, B was rejected: the marks of the arrivals say so
 use mathlib.Core.Path.{_≡_, refl, sym, ap, ap₂, subst, _∙_}
 use mathlib.Core.Bool.{true, false, _||_}
 use mathlib.Core.List.{List, [], _∷_, _++_, append-nil}
@@ -23,6 +22,7 @@ use Rattle.promises.proofs.Pass.{truthful-vouched, bad-fails, good-passes, Why
 use Rattle.promises.proofs.Marks.{Mark, wait, land, reject, arrived, waits, ended, lands, rejects, Split, split, arrived-append, waits-append, lands-append, rejects-append, Falls, Sound, serial-landed-is, serial-rejected-is, sound-after, sound-join, numbered-place, sound-gone, sound-land, passes-later, line-place, Distinct, numbers-split, numbers-ended, numbers-apart, not-waiting-is, distinct-push, sound-wait, leave, waits-leave, lands-leave, rejects-leave, arrived-leave, sound-leave, distinct-dropped}
 use Rattle.promises.proofs.Days.{log-keeps, fresh-number}
 
+-- C arrived, L has landed, W waits, B was rejected: the marks of the arrivals say so
 record Matches (f : Bench) (C L W B : List Change) : Type 0 where
   pub marks : List Mark
   pub arrived-is : arrived marks ≡ C

@@ -1,5 +1,4 @@
 -- The pass over those that wait: what a decision rests on, and what is kept by each decision is kept by the pass. Assumes nothing.
--- all that is known to be good is good on the bench
 use mathlib.Core.Path.{_≡_, refl, sym, ap, ap₂, subst, _∙_}
 use mathlib.Core.Bool.{Bool, true, false, cond, _||_, _&&_, and-false, true≢false}
 use mathlib.Core.List.{List, [], _∷_, _++_, append-nil, append-assoc}
@@ -18,6 +17,7 @@ use Rattle.promises.specs.Day.{Truthful}
 use Rattle.promises.proofs.Basics.{neither-left, neither-right, both-left, both-right, share-off}
 use Rattle.promises.proofs.Serial.{Apart}
 
+-- all that is known to be good is good on the bench
 abbrev pub Vouched : Bench → List Verdict → Type 0
 Vouched f ks = All (λ v. v .good ≡ true → f (v .run .part) (v .run .changes) ≡ true) ks
 

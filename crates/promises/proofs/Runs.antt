@@ -1,5 +1,4 @@
 -- Lists of runs: which runs stand in them, and how many different ones there can be. Assumes nothing.
--- by contradiction
 use mathlib.Core.Path.{_≡_, refl, sym, ap, subst, _∙_}
 use mathlib.Core.Bool.{Bool, true, false, cond, _||_, _&&_, and-false, or-true, or-false, or-assoc, true≢false}
 use mathlib.Core.List.{List, [], _∷_, _++_}
@@ -15,6 +14,7 @@ use Rattle.promises.specs.Day.{Different}
 use Rattle.promises.proofs.Basics.{clash, or-swap}
 use Rattle.promises.proofs.Pass.{same-run-is, same-run-refl}
 
+-- by contradiction
 pub not-so : (b : Bool) → (b ≡ true → ⊥) → b ≡ false
 not-so true k = absurd (k refl)
 not-so false k = refl

@@ -1,5 +1,4 @@
 -- Whether a change passes rests on the lines of its own parts and on nothing else. Assumes nothing.
--- two main lines are alike where they are the same on every part
 use mathlib.Core.Path.{_≡_, refl, sym, ap, ap₂, _∙_}
 use mathlib.Core.Bool.{Bool, true, false, cond, _&&_}
 use mathlib.Core.List.{List, [], _∷_, _++_}
@@ -9,6 +8,7 @@ use Rattle.change.specs.Change.{Change, has, line}
 use Rattle.serial.specs.Serial.{Bench, passes-on, passes}
 use Rattle.promises.proofs.Basics.{Off, line-append, line-off, has-head, has-tail}
 
+-- two main lines are alike where they are the same on every part
 abbrev pub Alike : List Change → List Change → Type 0
 Alike xs ys = (p : ℕ) → line p xs ≡ line p ys
 

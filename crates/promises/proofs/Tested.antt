@@ -1,5 +1,4 @@
 -- Every state that a part ever had in the main line was run and reported good. Assumes nothing.
--- each of the list passed on top of those before it
 use mathlib.Core.Path.{_≡_, refl, sym, ap, ap₂, subst, _∙_}
 use mathlib.Core.Bool.{Bool, true, false, _||_, _&&_, or-true, true≢false}
 use mathlib.Core.List.{List, [], _∷_, _++_, append-nil, append-assoc}
@@ -21,6 +20,7 @@ use Rattle.promises.proofs.Basics.{both-left, both-right, line-append, line-wi
 use Rattle.promises.proofs.Pass.{Vouched, same-run-refl, says, good-passes, pass-all}
 use Rattle.promises.proofs.Days.{log-keeps}
 
+-- each of the list passed on top of those before it
 abbrev Grown : Bench → List Change → List Change → Type 0
 Grown f pre [] = Unit {0}
 Grown f pre (c ∷ cs) = (passes f pre c ≡ true) × Grown f (pre ++ c ∷ []) cs

@@ -1,5 +1,4 @@
 -- Which runs are useful: how they begin and end, how many there are, and what stays useful. Assumes nothing.
--- lists of numbers without repeats
 use mathlib.Core.Path.{_≡_, refl, sym, ap, ap₂, subst, _∙_}
 use mathlib.Core.Bool.{Bool, true, false, cond, _||_, _&&_, not, or-true, true≢false}
 use mathlib.Core.List.{List, [], _∷_, _++_, append-nil, append-assoc}
@@ -22,6 +21,7 @@ use Rattle.promises.proofs.Serial.{Alike, alike-push, off-swap, Apart}
 use Rattle.promises.proofs.Pass.{same-run-is}
 use Rattle.promises.proofs.Runs.{not-so, among-head, among-left, among-right, among-cases, Sub}
 
+-- lists of numbers without repeats
 abbrev pub Once : List ℕ → Type 0
 Once [] = Unit {0}
 Once (p ∷ ps) = (has ps p ≡ false) × Once ps

@@ -1,5 +1,6 @@
 // The promises of whole days, each the contract of a function.
 ghost use Rattle.promises.specs.Promises.{Serial-equivalence, Every-state-tested, Decisions-final, Config-independent, Only-useful-runs, Fully-booked, Never-idle, Decided-when-known, Waste-bounded, Each-run-once, Verdicts-fit, Progress};
+ghost use Rattle.promises.specs.Wrong.{Wrong-queues};
 
 pub fn serial_equivalence() -> u8
     ensures { λ _. ⌜ Serial-equivalence ⌝ }
@@ -69,6 +70,12 @@ pub fn verdicts_fit() -> u8
 
 pub fn progress() -> u8
     ensures { λ _. ⌜ Progress ⌝ }
+{
+    0
+}
+
+pub fn wrong_queues() -> u8
+    ensures { λ _. ⌜ Wrong-queues ⌝ }
 {
     0
 }
