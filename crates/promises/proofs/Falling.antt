@@ -19,6 +19,7 @@ use Rattle.promises.specs.Day.{held, measure, Not-submit, All-taken}
 use Rattle.promises.specs.Promises.{Progress}
 use Rattle.promises.proofs.Basics.{kept-all}
 use Rattle.promises.proofs.Pass.{pass-all}
+use Rattle.promises.proofs.Days.{after-taken}
 use Rattle.promises.proofs.Runs.{among-left, all-from, length-place, pigeons}
 use Rattle.promises.proofs.Useful.{useful-few}
 use Rattle.promises.proofs.Held.{known, moved, Orderly, orderly-step, orderly}
@@ -104,10 +105,6 @@ falls t q (report i g) x a o = go (fewer-step t q (report i g))
     go : Fewer (q .landed) (q .waiting) (p .landed) (p .waiting) (p .rejected) → measure t p < measure t q
     go (inl l) = falls-waiting t q p (orderly-step t q (report i g) a o) l
     go (inr k) = omega (arith, ap (λ (ws : List Change). length ws * suc (most-parts * t .depth)) (k .1), falls-report t q i g a o (ap₂ (useful (t .depth)) (k .0) (k .1)))
-
-after-taken : (t : Config) (q : Queue) (e : Event) → accepts t q e ≡ true → after t q e ≡ step t q e
-unfolding after
-after-taken t q e a = ap (λ (b : Bool). cond b (step t q e) q) a
 
 falls-all : (t : Config) (fs : List Event) (q : Queue) → Orderly t q → All-taken t q fs → length fs + measure t (replayed t q fs) ≤ measure t q
 unfolding replayed

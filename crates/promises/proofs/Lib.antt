@@ -14,3 +14,4 @@ pub mod Count
 pub mod Fit
 pub mod Falling
 pub mod Excluded
+pub mod Reading

@@ -1,5 +1,6 @@
 // The promises of whole days, each the contract of a function.
 ghost use Rattle.promises.specs.Promises.{Serial-equivalence, Every-state-tested, Decisions-final, Config-independent, Only-useful-runs, Fully-booked, Never-idle, Decided-when-known, Waste-bounded, Each-run-once, Verdicts-fit, Progress};
+ghost use Rattle.promises.specs.Lent.{Lent-days, Lent-serial-equivalence, Lent-every-state-tested};
 ghost use Rattle.promises.specs.Wrong.{Wrong-queues};
 
 pub fn serial_equivalence() -> u8
@@ -76,6 +77,24 @@ pub fn progress() -> u8
 
 pub fn wrong_queues() -> u8
     ensures { λ _. ⌜ Wrong-queues ⌝ }
+{
+    0
+}
+
+pub fn lent_days() -> u8
+    ensures { λ _. ⌜ Lent-days ⌝ }
+{
+    0
+}
+
+pub fn lent_serial_equivalence() -> u8
+    ensures { λ _. ⌜ Lent-serial-equivalence ⌝ }
+{
+    0
+}
+
+pub fn lent_every_state_tested() -> u8
+    ensures { λ _. ⌜ Lent-every-state-tested ⌝ }
 {
     0
 }

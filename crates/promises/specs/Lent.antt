@@ -1,0 +1,69 @@
+-- The day over lent numbers, and the first two promises over it. Assumes nothing: these are definitions.
+use mathlib.Core.Path.{_≡_}
+use mathlib.Core.Bool.{Bool, true, false, cond}
+use mathlib.Core.List.{List, [], _∷_}
+use Prim.Native.Nat.{ℕ, suc, _<_}
+use lib.ListN.{length, getD, take, drop}
+use Rattle.queue.specs.declared.reply.Reply.{Reply}
+use Rattle.queue.specs.declared.reply.Reply.the-variants.{Done, Refused}
+use Rattle.change.specs.Change.{Change, has, line, numbered}
+use Rattle.serial.specs.Serial.{Bench, serial-landed, serial-rejected}
+use Rattle.queue.specs.Layout.{queue-length}
+use Rattle.queue.specs.Queue.{Config, Queue, empty, Event, accepts, after, replayed}
+use Rattle.queue.specs.Numbers.{decode, encode, event-in}
+use Rattle.queue.specs.Entry.{config, opened, stepped}
+use Rattle.promises.specs.Day.{logged, Truthful, said-good, not-waiting}
+
+abbrev pub is-done : Reply → Bool
+is-done (Done n) = true
+is-done (Refused r) = false
+
+-- the numbers after these events, each of them numbers itself, stepped one after another
+unfoldable pub lent-day : List ℕ → List (List ℕ) → List ℕ
+lent-day xs [] = xs
+lent-day xs (es ∷ more) = lent-day (stepped xs es .1) more
+
+-- those of the events that were taken
+unfoldable pub taken-events : List ℕ → List (List ℕ) → List Event
+taken-events xs [] = []
+taken-events xs (es ∷ more) =
+    cond (is-done (stepped xs es .0)) (event-in es ∷ taken-events (stepped xs es .1) more) (taken-events (stepped xs es .1) more)
+
+-- each event is taken in its turn
+abbrev pub All-accepted : Config → Queue → List Event → Type 0
+All-accepted t q [] = Unit {0}
+All-accepted t q (e ∷ es) = (accepts t q e ≡ true) × All-accepted t (after t q e) es
+
+-- A day that begins with a queue opened in a lent slice is the day on records over the events that were taken: all of these are taken there too, the numbers are those
+-- of its queue, what lies behind the queue is as it was, and read again the numbers say that queue.
+abbrev pub Lent-days : Type 0
+Lent-days =
+    (slice : List ℕ) (b k : ℕ) (ess : List (List ℕ)) → is-done (opened slice b k .0) ≡ true →
+    let t = config b k in
+    let xs = opened slice b k .1 in
+    let es = taken-events xs ess in
+    All-accepted t empty es
+    × (lent-day xs ess ≡ encode t (replayed t empty es) (drop queue-length slice))
+    × (decode (lent-day xs ess) ≡ replayed t empty es)
+
+-- Serial-equivalence over the numbers.
+abbrev pub Lent-serial-equivalence : Type 0
+Lent-serial-equivalence =
+    (bench : Bench) (slice : List ℕ) (b k : ℕ) (ess : List (List ℕ)) → is-done (opened slice b k .0) ≡ true →
+    let xs = opened slice b k .1 in
+    let g = logged (config b k) (taken-events xs ess) in
+    Truthful bench (g .reports) →
+    let q = decode (lent-day xs ess) in
+    let cs = not-waiting (g .arrivals) (q .waiting) in
+    ((p : ℕ) → line p (q .landed) ≡ line p (serial-landed bench [] cs))
+    × ((n : ℕ) → numbered n (q .landed) ≡ numbered n (serial-landed bench [] cs))
+    × ((n : ℕ) → numbered n (q .rejected) ≡ numbered n (serial-rejected bench [] cs))
+
+-- Every-state-tested over the numbers.
+abbrev pub Lent-every-state-tested : Type 0
+Lent-every-state-tested =
+    (slice : List ℕ) (b k : ℕ) (ess : List (List ℕ)) (i p : ℕ) (c : Change) → is-done (opened slice b k .0) ≡ true →
+    let xs = opened slice b k .1 in
+    let q = decode (lent-day xs ess) in
+    i < length (q .landed) → has (getD (q .landed) i c .parts) p ≡ true →
+    said-good (record { part = p; changes = line p (take (suc i) (q .landed)) }) (logged (config b k) (taken-events xs ess) .reports) ≡ true
