@@ -17,7 +17,7 @@ use Rattle.decide.specs.Decide.{all-good}
 use Rattle.plan.specs.Plan.{useful, among, kept, still-running}
 use Rattle.queue.specs.Queue.{Config, Queue, empty, Event, submit, withdraw, report, accepts, recorded, decided, useful-in, planned, step, replayed}
 use Rattle.promises.specs.Day.{Log, blank, withdrawn-by, new-runs, with-event, logged, held, Different, parts-in}
-use Rattle.promises.specs.Promises.{Waste-bounded, Each-run-once}
+use Rattle.promises.specs.Promises.{Each-run-once, Waste-bounded}
 use Rattle.promises.proofs.Basics.{clash, neither-right, both-left, both-right, numbered-push, kept-all}
 use Rattle.promises.proofs.Serial.{all-at}
 use Rattle.promises.proofs.Pass.{Lands, Rejects, pass-all}

@@ -7,7 +7,7 @@ use Rattle.change.specs.Change.{Change, line, numbered}
 use Rattle.serial.specs.Serial.{serial-landed, serial-rejected}
 use Rattle.queue.specs.Queue.{Config, Queue, empty, Event, submit, withdraw, report, recorded, decided, planned, step, replayed}
 use Rattle.promises.specs.Day.{logged, not-waiting}
-use Rattle.promises.specs.Promises.{Decisions-final, Config-independent}
+use Rattle.promises.specs.Promises.{Config-independent, Decisions-final}
 use Rattle.promises.proofs.Pass.{pass-all}
 use Rattle.promises.proofs.Days.{day-keeps}
 use Rattle.promises.proofs.Main.{serial-equivalence}

@@ -17,7 +17,7 @@ use Rattle.plan.specs.Plan.{useful, among, still-running, still-known}
 use Rattle.queue.specs.Queue.{Config, Queue, empty, Event, recorded, decided, useful-in, planned, step, replayed}
 use Rattle.queue.specs.WorkedDay.{run}
 use Rattle.promises.specs.Day.{held}
-use Rattle.promises.specs.Promises.{Fully-booked, Never-idle, Decided-when-known}
+use Rattle.promises.specs.Promises.{Never-idle, Fully-booked, Decided-when-known}
 use Rattle.promises.proofs.Basics.{clash, neither-left, neither-right, Off, off-sym, line-off, has-head, has-tail}
 use Rattle.promises.proofs.Serial.{Loose, Apart}
 use Rattle.promises.proofs.Pass.{same-run-is, shares-apart, Why-wait, for-parts, for-runs, pass-by}

@@ -3,9 +3,9 @@ use mathlib.Core.Path.{_≡_, refl, sym, ap, ap₂, subst, subst₂, _∙_}
 use mathlib.Core.Bool.{Bool, true, false, cond, _&&_, not, true≢false}
 use mathlib.Core.List.{List, [], _∷_}
 use mathlib.Core.Logic.{_⊎_, inl, inr}
-use Prim.Native.Nat.{ℕ, zero, suc, _+_, _≤_, _<_}
+use Prim.Native.Nat.{ℕ, zero, suc, _+_, _≤_}
 use lib.Dec.{ltb, leb}
-use lib.ListN.{length, getD, take, drop}
+use lib.ListN.{length, getD, drop}
 use Rattle.std.proofs.shelf.Tests.{leb-true, and-from}
 use Rattle.std.specs.Options.{mapped, isSome}
 use Rattle.std.specs.declared.option.Option.{Option}
@@ -16,15 +16,15 @@ use Rattle.queue.specs.declared.reply.Reply.the-variants.{Done}
 use Rattle.queue.specs.declared.reply.Refusal.{Refusal}
 use Rattle.queue.specs.declared.reply.Refusal.the-variants.{Benches, Depth, NumberUsed, Parts, NotWaiting, NotRunning, WaitingFull, LandedFull, RejectedFull}
 use Rattle.queue.proofs.Round.{decode-encode}
-use Rattle.change.specs.Change.{most-parts, Change, has, line, numbered, fault}
+use Rattle.change.specs.Change.{most-parts, Change, numbered, fault}
 use Rattle.change.specs.Records.{change-in}
-use Rattle.serial.specs.Serial.{serial-landed, serial-rejected}
 use Rattle.queue.specs.Layout.{most-landed, most-waiting, most-rejected, most-benches, most-depth, landed-count, waiting-count, rejected-count, running-count, queue-length}
 use Rattle.queue.specs.Queue.{Config, Queue, empty, Event, submit, used, fresh, proper, roomy, accepts, step, after, replayed}
 use Rattle.queue.specs.Numbers.{config-in, landed-in, waiting-in, rejected-in, decode, encode, event-by, event-in, Fits}
 use Rattle.queue.specs.Refusals.{Check, then, unless, length-check, benches-check, depth-check, number-check, parts-check, waits-check, place-check, room-check, verdicts-check, requests-check, kind-check, report-kind, front-check, refusal}
 use Rattle.queue.specs.Entry.{unless-refused, config, opened, stepped-to, stepped}
-use Rattle.promises.specs.Day.{logged, said-good, not-waiting}
+use Rattle.promises.specs.Day.{logged}
+use Rattle.promises.specs.Promises.{As-serial, All-tested}
 use Rattle.promises.specs.Lent.{is-done, lent-day, taken-events, All-accepted, Lent-days, Lent-serial-equivalence, Lent-every-state-tested}
 use Rattle.promises.proofs.Basics.{both-right}
 use Rattle.promises.proofs.Days.{after-taken, Reached, reached-empty, reached-after}
@@ -198,21 +198,11 @@ lent-days slice b k ess e = (
 
 -- a promise that holds of the day on records holds of what the numbers say
 pub lent-serial-equivalence : Lent-serial-equivalence
-lent-serial-equivalence f slice b k ess e r = subst Promise (sym (lent-days slice b k ess e .2)) (serial-equivalence f (config b k) es r)
-  where
-    es : List Event
-    es = taken-events (opened slice b k .1) ess
-
-    Promise : Queue → Type 0
-    Promise q =
-        let cs = not-waiting (logged (config b k) es .arrivals) (q .waiting) in
-        ((p : ℕ) → line p (q .landed) ≡ line p (serial-landed f [] cs)) × ((n : ℕ) → numbered n (q .landed) ≡ numbered n (serial-landed f [] cs)) × ((n : ℕ) → numbered n (q .rejected) ≡ numbered n (serial-rejected f [] cs))
+lent-serial-equivalence f slice b k ess e r =
+    let g = logged (config b k) (taken-events (opened slice b k .1) ess) in
+    subst (As-serial f g) (sym (lent-days slice b k ess e .2)) (serial-equivalence f (config b k) (taken-events (opened slice b k .1) ess) r)
 
 pub lent-every-state-tested : Lent-every-state-tested
-lent-every-state-tested slice b k ess i p c e = subst Promise (sym (lent-days slice b k ess e .2)) (every-state-tested (config b k) es i p c)
-  where
-    es : List Event
-    es = taken-events (opened slice b k .1) ess
-
-    Promise : Queue → Type 0
-    Promise q = i < length (q .landed) → has (getD (q .landed) i c .parts) p ≡ true → said-good (record { part = p; changes = line p (take (suc i) (q .landed)) }) (logged (config b k) es .reports) ≡ true
+lent-every-state-tested slice b k ess e =
+    let g = logged (config b k) (taken-events (opened slice b k .1) ess) in
+    subst (λ (q : Queue). All-tested (g .reports) (q .landed)) (sym (lent-days slice b k ess e .2)) (every-state-tested (config b k) (taken-events (opened slice b k .1) ess))

@@ -73,6 +73,11 @@ abbrev pub not-waiting : List Change → List Change → List Change
 not-waiting [] ws = []
 not-waiting (c ∷ cs) ws = cond (numbered (c .number) ws) (not-waiting cs ws) (c ∷ not-waiting cs ws)
 
+-- on every part the same changes landed in the same order, and in all the same numbers landed and were rejected
+abbrev pub Same-decisions : List Change → List Change → List Change → List Change → Type 0
+Same-decisions landed rejected landed′ rejected′ =
+    ((p : ℕ) → line p landed ≡ line p landed′) × ((n : ℕ) → numbered n landed ≡ numbered n landed′) × ((n : ℕ) → numbered n rejected ≡ numbered n rejected′)
+
 -- the runs that are known or running
 abbrev pub held : Queue → List Run
 held q = map (λ v. v .run) (q .verdicts) ++ q .running

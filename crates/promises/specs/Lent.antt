@@ -2,17 +2,17 @@
 use mathlib.Core.Path.{_≡_}
 use mathlib.Core.Bool.{Bool, true, false, cond}
 use mathlib.Core.List.{List, [], _∷_}
-use Prim.Native.Nat.{ℕ, suc, _<_}
-use lib.ListN.{length, getD, take, drop}
+use Prim.Native.Nat.{ℕ}
+use lib.ListN.{drop}
 use Rattle.queue.specs.declared.reply.Reply.{Reply}
 use Rattle.queue.specs.declared.reply.Reply.the-variants.{Done, Refused}
-use Rattle.change.specs.Change.{Change, has, line, numbered}
-use Rattle.serial.specs.Serial.{Bench, serial-landed, serial-rejected}
+use Rattle.serial.specs.Serial.{Bench}
 use Rattle.queue.specs.Layout.{queue-length}
 use Rattle.queue.specs.Queue.{Config, Queue, empty, Event, accepts, after, replayed}
 use Rattle.queue.specs.Numbers.{decode, encode, event-in}
 use Rattle.queue.specs.Entry.{config, opened, stepped}
-use Rattle.promises.specs.Day.{logged, Truthful, said-good, not-waiting}
+use Rattle.promises.specs.Day.{logged, Truthful}
+use Rattle.promises.specs.Promises.{As-serial, All-tested}
 
 abbrev pub is-done : Reply → Bool
 is-done (Done n) = true
@@ -46,24 +46,17 @@ Lent-days =
     × (lent-day xs ess ≡ encode t (replayed t empty es) (drop queue-length slice))
     × (decode (lent-day xs ess) ≡ replayed t empty es)
 
--- Serial-equivalence over the numbers.
+-- Serial-equivalence, of what the numbers say.
 abbrev pub Lent-serial-equivalence : Type 0
 Lent-serial-equivalence =
     (bench : Bench) (slice : List ℕ) (b k : ℕ) (ess : List (List ℕ)) → is-done (opened slice b k .0) ≡ true →
     let xs = opened slice b k .1 in
     let g = logged (config b k) (taken-events xs ess) in
-    Truthful bench (g .reports) →
-    let q = decode (lent-day xs ess) in
-    let cs = not-waiting (g .arrivals) (q .waiting) in
-    ((p : ℕ) → line p (q .landed) ≡ line p (serial-landed bench [] cs))
-    × ((n : ℕ) → numbered n (q .landed) ≡ numbered n (serial-landed bench [] cs))
-    × ((n : ℕ) → numbered n (q .rejected) ≡ numbered n (serial-rejected bench [] cs))
+    Truthful bench (g .reports) → As-serial bench g (decode (lent-day xs ess))
 
--- Every-state-tested over the numbers.
+-- Every-state-tested, of what the numbers say.
 abbrev pub Lent-every-state-tested : Type 0
 Lent-every-state-tested =
-    (slice : List ℕ) (b k : ℕ) (ess : List (List ℕ)) (i p : ℕ) (c : Change) → is-done (opened slice b k .0) ≡ true →
+    (slice : List ℕ) (b k : ℕ) (ess : List (List ℕ)) → is-done (opened slice b k .0) ≡ true →
     let xs = opened slice b k .1 in
-    let q = decode (lent-day xs ess) in
-    i < length (q .landed) → has (getD (q .landed) i c .parts) p ≡ true →
-    said-good (record { part = p; changes = line p (take (suc i) (q .landed)) }) (logged (config b k) (taken-events xs ess) .reports) ≡ true
+    All-tested (logged (config b k) (taken-events xs ess) .reports) (decode (lent-day xs ess) .landed)
