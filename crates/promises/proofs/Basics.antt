@@ -2,8 +2,9 @@
 use mathlib.Core.Path.{_≡_, refl, sym, ap, subst, _∙_}
 use mathlib.Core.Bool.{Bool, true, false, cond, _||_, _&&_, or-true, or-false, or-assoc, or-comm, true≢false}
 use mathlib.Core.List.{List, [], _∷_, _++_, append-nil}
-use Prim.Native.Nat.{ℕ}
+use Prim.Native.Nat.{ℕ, suc}
 use lib.Dec.{eqb}
+use lib.ListN.{length}
 use Rattle.std.proofs.shelf.Tests.{eqb-true, eq-eqb}
 use Rattle.std.specs.shelf.Lists.{All}
 use Rattle.change.specs.Change.{Change, has, share, line, numbered}
@@ -11,6 +12,11 @@ use Rattle.plan.specs.Plan.{kept}
 
 pub clash : {A : Type 0} → {b : Bool} → b ≡ true → b ≡ false → A
 clash p q = absurd (true≢false (sym p ∙ q))
+
+-- by contradiction
+pub not-so : (b : Bool) → (b ≡ true → ⊥) → b ≡ false
+not-so true k = absurd (k refl)
+not-so false k = refl
 
 pub neither-left : (a b : Bool) → (a || b) ≡ false → a ≡ false
 neither-left true b e = e
@@ -85,16 +91,6 @@ has-head p ps = ap (λ (b : Bool). (b || has ps p)) (eq-eqb p p refl)
 pub has-tail : (q : ℕ) (ps : List ℕ) (p : ℕ) → has ps p ≡ true → has (q ∷ ps) p ≡ true
 has-tail q ps p e = ap (_||_ (eqb q p)) e ∙ or-true (eqb q p)
 
-pub has-append : (qs rs : List ℕ) (p : ℕ) → has (qs ++ rs) p ≡ (has qs p || has rs p)
-has-append [] rs p = refl
-has-append (q ∷ qs) rs p = ap (_||_ (eqb q p)) (has-append qs rs p) ∙ sym (or-assoc (eqb q p) (has qs p) (has rs p))
-
-pub off-left : (ps qs rs : List ℕ) → Off ps (qs ++ rs) → Off ps qs
-off-left ps qs rs o p h = neither-left (has qs p) (has rs p) (sym (has-append qs rs p) ∙ o p h)
-
-pub off-right : (ps qs rs : List ℕ) → Off ps (qs ++ rs) → Off ps rs
-off-right ps qs rs o p h = neither-right (has qs p) (has rs p) (sym (has-append qs rs p) ∙ o p h)
-
 -- what holds of each of a list
 pub all-both : {A : Type 0} (P : A → Type 0) (xs ys : List A) → All P (xs ++ ys) → All P xs × All P ys
 all-both P [] ys h = (tt, h)
@@ -111,3 +107,7 @@ all-kept P test (x ∷ xs) h = go (all-kept P test xs (h .1)) (test x)
 pub kept-all : {A : Type 0} (test : A → Bool) (xs : List A) → All (λ x. test x ≡ true) xs → kept test xs ≡ xs
 kept-all test [] h = refl
 kept-all test (x ∷ xs) h = ap (λ (b : Bool). cond b (x ∷ kept test xs) (kept test xs)) (h .0) ∙ ap (λ (r : List _). x ∷ r) (kept-all test xs (h .1))
+
+pub length-place : {A : Type 0} (xs : List A) (x : A) (ys : List A) → length (xs ++ x ∷ ys) ≡ suc (length (xs ++ ys))
+length-place [] x ys = refl
+length-place (y ∷ xs) x ys = ap suc (length-place xs x ys)

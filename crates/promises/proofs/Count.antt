@@ -18,12 +18,12 @@ use Rattle.plan.specs.Plan.{useful, among, kept, still-running}
 use Rattle.queue.specs.Queue.{Config, Queue, empty, Event, submit, withdraw, report, accepts, recorded, decided, useful-in, planned, step, replayed}
 use Rattle.promises.specs.Day.{Log, blank, withdrawn-by, new-runs, with-event, logged, held, Different, parts-in}
 use Rattle.promises.specs.Promises.{Each-run-once, Waste-bounded}
-use Rattle.promises.proofs.Basics.{clash, neither-right, both-left, both-right, numbered-push, kept-all}
+use Rattle.promises.proofs.Basics.{clash, not-so, neither-right, both-left, both-right, numbered-push, kept-all}
 use Rattle.promises.proofs.Serial.{all-at}
 use Rattle.promises.proofs.Pass.{Lands, Rejects, pass-all}
 use Rattle.promises.proofs.Marks.{ended, numbered-place}
 use Rattle.promises.proofs.Days.{log-keeps}
-use Rattle.promises.proofs.Runs.{not-so, among-head, among-append, among-left, among-right, among-cases, among-one, Sub, all-from, among-kept, different-kept, different-append, pigeons}
+use Rattle.promises.proofs.Runs.{among-head, among-append, among-left, among-right, among-cases, among-one, Sub, all-from, among-kept, different-kept, different-append, different-both, different-apart, pigeons}
 use Rattle.promises.proofs.Useful.{Proper, length-runs-on, useful-more, useful-land, last, runs-last, useful-last, different-runs, useful-few, useful-parts}
 use Rattle.promises.proofs.Held.{Neat, neat-land, neat-reject, neat-recorded, known, unknown-is, moved, kept-append, still-held, Replanned, Orderly, ready, orderly-step, orderly-empty, orderly}
 use Rattle.promises.proofs.Idle.{useful-none}
@@ -198,13 +198,6 @@ kept-none : (test : Run → Bool) (rs : List Run) → ((r : Run) → among r rs 
 kept-none test [] k = refl
 kept-none test (r ∷ rs) k = ap (λ (b : Bool). cond b (r ∷ kept test rs) (kept test rs)) (k r (among-head r rs)) ∙ kept-none test rs (λ s e. k s (among-right s (r ∷ []) rs e))
 
-different-apart : (xs ys : List Run) → Different (xs ++ ys) → (r : Run) → among r xs ≡ true → among r ys ≡ false
-different-apart [] ys d r e = absurd (true≢false (sym e))
-different-apart (x ∷ xs) ys d r e = elim (among-cases r (x ∷ []) xs e) [
-  | inl j ↦ neither-right (among r xs) (among r ys) (sym (among-append r xs ys) ∙ subst (λ (s : Run). among s (xs ++ ys) ≡ false) (sym (among-one r x j)) (d .0))
-  | inr j ↦ different-apart xs ys (d .1) r j
-]
-
 -- a run that was held and is useful is not requested
 new-not-held : (t : Config) (q : Queue) (e : Event) → accepts t q e ≡ true → (k : Replanned t (decided (recorded q e)) (step t q e)) → (r : Run) → among r (k .new) ≡ true → among r (held q) ≡ false
 new-not-held t q e a k r h = not-so (among r (held q)) (λ j. clash h (different-apart still (k .new) (subst Different (k .held-is) (k .different)) r
@@ -311,7 +304,7 @@ counted-step t q g e a c = record {
         Different (g .requests ++ new-runs (q .running) (n .running)) × ((r : Run) → among r (g .requests ++ new-runs (q .running) (n .running)) ≡ true → (among r (held n) ≡ true) ⊎ (numbered (last r) (n .landed) ≡ true))
     once-by z = (
       subst (λ (rs : List Run). Different (g .requests ++ rs)) (sym news)
-          (different-append (g .requests) (k .new) (before .0) (new-different still (k .new) (subst Different (k .held-is) (k .different))) (λ r h. not-so (among r (k .new)) (λ j. again r j (before .1 r h)))),
+          (different-append (g .requests) (k .new) (before .0) (different-both still (k .new) (subst Different (k .held-is) (k .different)) .1) (λ r h. not-so (among r (k .new)) (λ j. again r j (before .1 r h)))),
       λ r h. elim (among-cases r (g .requests) (k .new) (ap (λ (rs : List Run). among r (g .requests ++ rs)) (sym news) ∙ h)) [
         | inl j ↦ stays r (before .1 r j)
         | inr j ↦ inl (ap (among r) (k .held-is) ∙ among-right r still (k .new) j)
@@ -320,10 +313,6 @@ counted-step t q g e a c = record {
       where
         before : Different (g .requests) × ((r : Run) → among r (g .requests) ≡ true → (among r (held q) ≡ true) ⊎ (numbered (last r) (q .landed) ≡ true))
         before = c .once (omega (arith, z, m .more, rejected-is))
-
-        new-different : (xs ys : List Run) → Different (xs ++ ys) → Different ys
-        new-different [] ys d = d
-        new-different (x ∷ xs) ys d = new-different xs ys (d .1)
 
         -- a new run is neither held before nor of a change that landed
         again : (r : Run) → among r (k .new) ≡ true → (among r (held q) ≡ true) ⊎ (numbered (last r) (q .landed) ≡ true) → ⊥

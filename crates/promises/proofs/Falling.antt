@@ -17,10 +17,10 @@ use Rattle.queue.specs.Queue.{Config, Queue, empty, Event, submit, withdraw, re
 use Rattle.queue.specs.WorkedDay.{run}
 use Rattle.promises.specs.Day.{held, measure, Not-submit, All-taken}
 use Rattle.promises.specs.Promises.{Progress}
-use Rattle.promises.proofs.Basics.{kept-all}
+use Rattle.promises.proofs.Basics.{kept-all, length-place}
 use Rattle.promises.proofs.Pass.{pass-all}
 use Rattle.promises.proofs.Days.{after-taken}
-use Rattle.promises.proofs.Runs.{among-left, all-from, length-place, pigeons}
+use Rattle.promises.proofs.Runs.{among-left, all-from, pigeons}
 use Rattle.promises.proofs.Useful.{useful-few}
 use Rattle.promises.proofs.Held.{known, moved, Orderly, orderly-step, orderly}
 use Rattle.promises.proofs.Fit.{all-verdicts}

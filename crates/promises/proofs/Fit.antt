@@ -1,7 +1,7 @@
 -- What a reachable queue holds fits its sections. Assumes nothing.
 use mathlib.Core.Path.{_≡_, sym, ap, subst, _∙_}
 use mathlib.Core.Bool.{Bool, true, false, cond, _&&_}
-use mathlib.Core.List.{List, [], _∷_, _++_}
+use mathlib.Core.List.{List, [], _∷_}
 use mathlib.Core.Logic.{_⊎_, inl, inr}
 use Prim.Native.Nat.{ℕ, suc, _+_, _≤_, _<_}
 use native.Mathlib.Omega.{arith}
@@ -18,12 +18,12 @@ use Rattle.plan.specs.Plan.{useful, among}
 use Rattle.queue.specs.Layout.{most-landed, most-waiting, most-rejected, most-verdicts, most-benches, most-depth}
 use Rattle.queue.specs.Queue.{Config, Queue, empty, Event, submit, withdraw, report, fresh, proper, roomy, accepts, recorded, decided, useful-in, planned, step, replayed}
 use Rattle.queue.specs.Numbers.{Fits}
-use Rattle.promises.specs.Day.{held, Different, Begins}
+use Rattle.promises.specs.Day.{held, Begins}
 use Rattle.promises.specs.Promises.{Verdicts-fit}
-use Rattle.promises.proofs.Basics.{neither-left, both-left, both-right, all-both}
+use Rattle.promises.proofs.Basics.{both-left, both-right, all-both, length-place}
 use Rattle.promises.proofs.Pass.{pass-all}
 use Rattle.promises.proofs.Days.{day-keeps}
-use Rattle.promises.proofs.Runs.{among-append, among-left, among-cases, among-one, all-from, length-place, pigeons}
+use Rattle.promises.proofs.Runs.{among-left, among-cases, among-one, all-from, different-both, pigeons}
 use Rattle.promises.proofs.Useful.{Proper, useful-few, useful-begin}
 use Rattle.promises.proofs.Held.{known, Orderly, orderly}
 use Rattle.promises.proofs.Idle.{useful-none, next-run}
@@ -105,10 +105,6 @@ few-verdicts t es d = go (cases-lt 0 (t .depth)) (cases-lt 0 (length (q .waiting
     o : Orderly t q
     o = orderly t es
 
-    known-different : (xs ys : List Run) → Different (xs ++ ys) → Different xs
-    known-different [] ys k = tt
-    known-different (x ∷ xs) ys k = (neither-left (among x xs) (among x ys) (sym (among-append x xs ys) ∙ k .0), known-different xs ys (k .1))
-
     go : (0 < t .depth) ⊎ (t .depth ≤ 0) → (0 < length (q .waiting)) ⊎ (length (q .waiting) ≤ 0) → length (q .verdicts) < most-verdicts
     go (inr k) w = omega (arith, k, held-few t q o, length-held q)
     go (inl k) (inr w) = omega (
@@ -124,7 +120,7 @@ few-verdicts t es d = go (cases-lt 0 (t .depth)) (cases-lt 0 (length (q .waiting
           d,
           length-map (q .verdicts) (λ (v : Verdict). v .run),
           useful-few (t .depth) (q .waiting) (q .landed) (o .neat .waiting),
-          pigeons (n .run ∷ known (q .verdicts)) (useful-in t q) (n .unknown, known-different (known (q .verdicts)) (q .running) (o .different))
+          pigeons (n .run ∷ known (q .verdicts)) (useful-in t q) (n .unknown, different-both (known (q .verdicts)) (q .running) (o .different) .0)
               (λ r e. elim (among-cases r (n .run ∷ []) (known (q .verdicts)) e) [
                 | inl j ↦ subst (λ (x : Run). among x (useful-in t q) ≡ true) (sym (among-one r (n .run) j)) (n .useful)
                 | inr j ↦ o .useful r (among-left r (known (q .verdicts)) (q .running) j)

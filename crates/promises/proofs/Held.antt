@@ -19,12 +19,12 @@ use Rattle.queue.specs.Queue.{Config, Queue, empty, Event, submit, withdraw, re
 use Rattle.queue.specs.WorkedDay.{run}
 use Rattle.promises.specs.Day.{held, Different}
 use Rattle.promises.specs.Promises.{Only-useful-runs}
-use Rattle.promises.proofs.Basics.{clash, neither-left, neither-right, both-left, both-right, numbered-push}
+use Rattle.promises.proofs.Basics.{clash, not-so, neither-left, neither-right, both-left, both-right, numbered-push, length-place}
 use Rattle.promises.proofs.Serial.{all-out, all-at}
 use Rattle.promises.proofs.Pass.{pass-all}
 use Rattle.promises.proofs.Marks.{numbered-place, Distinct, distinct-push, numbered-dropped, distinct-dropped}
 use Rattle.promises.proofs.Days.{day-keeps, fresh-number}
-use Rattle.promises.proofs.Runs.{not-so, same-run-sym, among-head, among-append, among-left, among-right, among-cases, among-one, among-place, Sub, all-from, among-kept, different-kept, different-push, length-place}
+use Rattle.promises.proofs.Runs.{same-run-sym, among-head, among-append, among-left, among-right, among-cases, among-one, among-place, Sub, all-from, among-kept, different-kept, different-push}
 use Rattle.promises.proofs.Useful.{Proper, proper-is}
 
 -- CHANGES. L has landed, W waits, B was rejected.
@@ -38,7 +38,7 @@ pub record Neat (L W B : List Change) : Type 0 where
 abbrev pub Neat-in : Queue → Type 0
 Neat-in q = Neat (q .landed) (q .waiting) (q .rejected)
 
-pub distinct-place : (W₁ : List Change) (c : Change) (W₂ : List Change) → Distinct (W₁ ++ c ∷ W₂) → (numbered (c .number) (W₁ ++ W₂) ≡ false) × Distinct (W₁ ++ W₂)
+distinct-place : (W₁ : List Change) (c : Change) (W₂ : List Change) → Distinct (W₁ ++ c ∷ W₂) → (numbered (c .number) (W₁ ++ W₂) ≡ false) × Distinct (W₁ ++ W₂)
 distinct-place [] c W₂ u = u
 distinct-place (w ∷ W₁) c W₂ u =
     let k = distinct-place W₁ c W₂ (u .1) in
@@ -71,7 +71,7 @@ neat-reject L W₁ c W₂ B k = record {
   apart = λ n e. k .apart n (numbered-still n W₁ c W₂ e);
 }
 
-pub neat-decided : (q : Queue) → Neat-in q → Neat-in (decided q)
+neat-decided : (q : Queue) → Neat-in q → Neat-in (decided q)
 unfolding decided
 neat-decided q k = pass-all (q .verdicts) Neat (λ L W₁ c W₂ B e h. neat-land L W₁ c W₂ B h) (λ L W₁ c W₂ B e h. neat-reject L W₁ c W₂ B h) (q .landed) (q .waiting) (q .rejected) k
 
@@ -131,7 +131,7 @@ unknown-is r (v ∷ vs) = go (unknown-is r vs) (same-run r (v .run)) (v .good)
     go ih true false = refl
     go ih false g = ih
 
-pub lacks-is : (vs : List Verdict) (rs : List Run) (u : Run) → lacks vs rs u ≡ not (among u (known vs ++ rs))
+lacks-is : (vs : List Verdict) (rs : List Run) (u : Run) → lacks vs rs u ≡ not (among u (known vs ++ rs))
 lacks-is vs rs u = ap (λ (b : Bool). b && not (among u rs)) (unknown-is u vs) ∙ neither (among u (known vs)) (among u rs) ∙ ap not (sym (among-append u (known vs) rs))
   where
     neither : (a b : Bool) → (not a && not b) ≡ not (a || b)
@@ -311,7 +311,7 @@ pub record Replanned (t : Config) (q p : Queue) : Type 0 where
   pub different : Different (held p)
   pub few : length (p .running) ≤ t .benches
 
-pub replanned : (t : Config) (q : Queue) → Different (held q) → length (q .running) ≤ t .benches → Replanned t q (planned t q)
+replanned : (t : Config) (q : Queue) → Different (held q) → length (q .running) ≤ t .benches → Replanned t q (planned t q)
 unfolding planned
 replanned t q d l = record {
   new = k .new;

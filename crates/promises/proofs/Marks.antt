@@ -3,13 +3,15 @@ use mathlib.Core.Path.{_≡_, refl, sym, ap, ap₂, subst, subst₂, _∙_}
 use mathlib.Core.Bool.{Bool, true, false, cond, _||_, or-true, or-assoc}
 use mathlib.Core.List.{List, [], _∷_, _++_, append-nil, append-assoc}
 use Prim.Native.Nat.{ℕ}
+use native.Mathlib.Omega.{arith}
 use lib.Dec.{eqb}
+use lib.ListN.{length}
 use Rattle.std.proofs.shelf.Tests.{eqb-true, eqb-false, eq-eqb, ne-eqb, or-from}
 use Rattle.std.specs.shelf.Lists.{All}
 use Rattle.change.specs.Change.{Change, has, line, numbered, dropped}
 use Rattle.serial.specs.Serial.{Bench, passes, serial-landed, serial-rejected}
 use Rattle.promises.specs.Day.{not-waiting}
-use Rattle.promises.proofs.Basics.{clash, neither-left, neither-right, or-swap, off-sym, line-append, line-without, numbered-append, numbered-push}
+use Rattle.promises.proofs.Basics.{clash, neither-left, neither-right, or-swap, off-sym, line-append, line-without, numbered-append, numbered-push, length-place}
 use Rattle.promises.proofs.Serial.{line-skip, Loose, passes-insert, all-out, all-at}
 
 pub data Mark : Type 0 where
@@ -47,28 +49,11 @@ rejects (wait c ∷ m) = rejects m
 rejects (land c ∷ m) = rejects m
 rejects (reject c ∷ m) = c ∷ rejects m
 
--- lists
-abbrev IsNil : List Change → Type 0
-IsNil [] = Unit {0}
-IsNil (x ∷ xs) = ⊥
-
 pub no-cons : (xs : List Change) (c : Change) (ys : List Change) → [] ≡ xs ++ c ∷ ys → ⊥
-no-cons [] c ys e = subst IsNil e tt
-no-cons (x ∷ xs) c ys e = subst IsNil e tt
+no-cons xs c ys e = omega (arith, ap length e, length-place xs c ys)
 
-abbrev head-or : Change → List Change → Change
-head-or x [] = x
-head-or x (y ∷ ys) = y
-
-abbrev rest : List Change → List Change
-rest [] = []
-rest (y ∷ ys) = ys
-
-pub same-head : (x y : Change) (xs ys : List Change) → x ∷ xs ≡ y ∷ ys → x ≡ y
-same-head x y xs ys e = ap (head-or x) e
-
-pub same-rest : (x y : Change) (xs ys : List Change) → x ∷ xs ≡ y ∷ ys → xs ≡ ys
-same-rest x y xs ys e = ap rest e
+cons-same : (x y : Change) (xs ys : List Change) → x ∷ xs ≡ y ∷ ys → (x ≡ y) × (xs ≡ ys)
+cons-same x y xs ys e = (cc, cc)
 
 -- where a waiting change stands
 pub record Split (m : List Mark) (W₁ : List Change) (c : Change) (W₂ : List Change) : Type 0 where
@@ -82,10 +67,11 @@ pub split : (m : List Mark) (W₁ : List Change) (c : Change) (W₂ : List Chang
 split [] W₁ c W₂ e = absurd (no-cons W₁ c W₂ e)
 split (land d ∷ m) W₁ c W₂ e = let r = split m W₁ c W₂ e in record { m₁ = land d ∷ r .m₁; m₂ = r .m₂; is = ap (λ (x : List Mark). land d ∷ x) (r .is); w₁ = r .w₁; w₂ = r .w₂ }
 split (reject d ∷ m) W₁ c W₂ e = let r = split m W₁ c W₂ e in record { m₁ = reject d ∷ r .m₁; m₂ = r .m₂; is = ap (λ (x : List Mark). reject d ∷ x) (r .is); w₁ = r .w₁; w₂ = r .w₂ }
-split (wait w ∷ m) [] c W₂ e = record { m₁ = []; m₂ = m; is = ap (λ (x : Change). wait x ∷ m) (same-head w c (waits m) W₂ e); w₁ = refl; w₂ = same-rest w c (waits m) W₂ e }
+split (wait w ∷ m) [] c W₂ e = record { m₁ = []; m₂ = m; is = ap (λ (x : Change). wait x ∷ m) (cc); w₁ = refl; w₂ = cc }
 split (wait w ∷ m) (x ∷ W₁) c W₂ e =
-    let r = split m W₁ c W₂ (same-rest w x (waits m) (W₁ ++ c ∷ W₂) e) in
-    record { m₁ = wait w ∷ r .m₁; m₂ = r .m₂; is = ap (λ (y : List Mark). wait w ∷ y) (r .is); w₁ = ap₂ (λ (y : Change) (ys : List Change). y ∷ ys) (same-head w x (waits m) (W₁ ++ c ∷ W₂) e) (r .w₁); w₂ = r .w₂ }
+    let same = cons-same w x (waits m) (W₁ ++ c ∷ W₂) e in
+    let r = split m W₁ c W₂ (same .1) in
+    record { m₁ = wait w ∷ r .m₁; m₂ = r .m₂; is = ap (λ (y : List Mark). wait w ∷ y) (r .is); w₁ = ap₂ (λ (y : Change) (ys : List Change). y ∷ ys) (same .0) (r .w₁); w₂ = r .w₂ }
 
 pub arrived-append : (m k : List Mark) → arrived (m ++ k) ≡ arrived m ++ arrived k
 arrived-append [] k = refl

@@ -11,13 +11,8 @@ use Rattle.std.specs.shelf.Lists.{All}
 use Rattle.run.specs.Run.{Run, same-run}
 use Rattle.plan.specs.Plan.{among, kept}
 use Rattle.promises.specs.Day.{Different}
-use Rattle.promises.proofs.Basics.{clash, or-swap}
+use Rattle.promises.proofs.Basics.{clash, not-so, neither-left, neither-right, or-swap, length-place}
 use Rattle.promises.proofs.Pass.{same-run-is, same-run-refl}
-
--- by contradiction
-pub not-so : (b : Bool) → (b ≡ true → ⊥) → b ≡ false
-not-so true k = absurd (k refl)
-not-so false k = refl
 
 pub same-run-sym : (r s : Run) → same-run r s ≡ true → same-run s r ≡ true
 same-run-sym r s e = subst (λ (x : Run). same-run x r ≡ true) (same-run-is r s e) (same-run-refl r)
@@ -38,7 +33,7 @@ among-right r xs ys e = among-append r xs ys ∙ ap (_||_ (among r xs)) e ∙ or
 pub among-cases : (r : Run) (xs ys : List Run) → among r (xs ++ ys) ≡ true → (among r xs ≡ true) ⊎ (among r ys ≡ true)
 among-cases r xs ys e = or-cases (among r xs) (among r ys) (sym (among-append r xs ys) ∙ e)
 
-pub among-neither : (r : Run) (xs ys : List Run) → among r xs ≡ false → among r ys ≡ false → among r (xs ++ ys) ≡ false
+among-neither : (r : Run) (xs ys : List Run) → among r xs ≡ false → among r ys ≡ false → among r (xs ++ ys) ≡ false
 among-neither r xs ys e h = among-append r xs ys ∙ or-from (among r xs) (among r ys) e h
 
 pub among-one : (r s : Run) → among r (s ∷ []) ≡ true → r ≡ s
@@ -50,9 +45,6 @@ among-place x A r B = among-append x A (r ∷ B) ∙ or-swap (among x A) (same-r
 -- all of one list stand in the other
 abbrev pub Sub : List Run → List Run → Type 0
 Sub xs ys = (r : Run) → among r xs ≡ true → among r ys ≡ true
-
-pub sub-none : (xs ys : List Run) → Sub xs ys → (r : Run) → among r ys ≡ false → among r xs ≡ false
-sub-none xs ys s r e = not-so (among r xs) (λ k. clash (s r k) e)
 
 pub all-from : (P : Run → Type 0) (xs : List Run) → ((r : Run) → among r xs ≡ true → P r) → All P xs
 all-from P [] k = tt
@@ -81,6 +73,17 @@ pub different-append : (xs ys : List Run) → Different xs → Different ys → 
 different-append [] ys n m k = m
 different-append (x ∷ xs) ys n m k = (among-neither x xs ys (n .0) (k x (among-head x xs)), different-append xs ys (n .1) m (λ r e. k r (among-right r (x ∷ []) xs e)))
 
+pub different-both : (xs ys : List Run) → Different (xs ++ ys) → Different xs × Different ys
+different-both [] ys d = (tt, d)
+different-both (x ∷ xs) ys d = let k = different-both xs ys (d .1) in ((neither-left (among x xs) (among x ys) (sym (among-append x xs ys) ∙ d .0), k .0), k .1)
+
+pub different-apart : (xs ys : List Run) → Different (xs ++ ys) → (r : Run) → among r xs ≡ true → among r ys ≡ false
+different-apart [] ys d r e = absurd (true≢false (sym e))
+different-apart (x ∷ xs) ys d r e = elim (among-cases r (x ∷ []) xs e) [
+  | inl j ↦ neither-right (among r xs) (among r ys) (sym (among-append r xs ys) ∙ subst (λ (s : Run). among s (xs ++ ys) ≡ false) (sym (among-one r x j)) (d .0))
+  | inr j ↦ different-apart xs ys (d .1) r j
+]
+
 pub different-push : (xs : List Run) (r : Run) → Different xs → among r xs ≡ false → Different (xs ++ r ∷ [])
 different-push xs r n e = different-append xs (r ∷ []) n (refl, tt) (λ s k. not-so (among s (r ∷ [])) (λ l. clash (subst (λ (x : Run). among x xs ≡ true) (among-one s r l) k) e))
 
@@ -97,10 +100,6 @@ split-at r (s ∷ rs) e = go (split-at r rs) (same-run r s) refl e
     go : (among r rs ≡ true → Split-at r rs) → (b : Bool) → same-run r s ≡ b → (b || among r rs) ≡ true → Split-at r (s ∷ rs)
     go ih true k h = record { before = []; behind = rs; is = ap (λ (x : Run). x ∷ rs) (sym (same-run-is r s k)) }
     go ih false k h = let p = ih h in record { before = s ∷ p .before; behind = p .behind; is = ap (λ (xs : List Run). s ∷ xs) (p .is) }
-
-pub length-place : {A : Type 0} (xs : List A) (x : A) (ys : List A) → length (xs ++ x ∷ ys) ≡ suc (length (xs ++ ys))
-length-place [] x ys = refl
-length-place (y ∷ xs) x ys = ap suc (length-place xs x ys)
 
 -- a list of different runs that all stand in another is no longer than it
 pub pigeons : (rs us : List Run) → Different rs → Sub rs us → length rs ≤ length us

@@ -16,10 +16,10 @@ use Rattle.run.specs.Run.{Run, same-run, run-on, runs-on}
 use Rattle.plan.specs.Plan.{useful, among}
 use Rattle.queue.specs.Queue.{proper}
 use Rattle.promises.specs.Day.{Different, parts-in, Begins}
-use Rattle.promises.proofs.Basics.{clash, neither-left, neither-right, both-left, both-right, Off, off-sym, line-append, line-off, has-head, has-tail}
+use Rattle.promises.proofs.Basics.{clash, not-so, neither-left, neither-right, both-left, both-right, Off, off-sym, line-append, line-off, has-head, has-tail}
 use Rattle.promises.proofs.Serial.{Alike, alike-push, off-swap, Apart}
 use Rattle.promises.proofs.Pass.{same-run-is}
-use Rattle.promises.proofs.Runs.{not-so, among-head, among-left, among-right, among-cases, Sub}
+use Rattle.promises.proofs.Runs.{among-head, among-left, among-right, among-cases, Sub}
 
 -- lists of numbers without repeats
 abbrev pub Once : List ℕ → Type 0
