@@ -7,6 +7,7 @@ use lib.Dec.{eqb}
 use lib.ListN.{length}
 use Rattle.std.proofs.shelf.Tests.{eqb-true, eq-eqb}
 use Rattle.std.specs.shelf.Lists.{All}
+use Rattle.change.proofs.Changes.{line-append}
 use Rattle.change.specs.Change.{Change, has, share, line, numbered}
 use Rattle.plan.specs.Plan.{kept}
 
@@ -57,15 +58,6 @@ share-off (q ∷ ps) qs e p h = go (share-off ps qs (neither-right (has qs q) (s
     go : (has ps p ≡ true → has qs p ≡ false) → (b : Bool) → eqb q p ≡ b → (b || has ps p) ≡ true → has qs p ≡ false
     go ih true k h = subst (λ (x : ℕ). has qs x ≡ false) (eqb-true q p k) (neither-left (has qs q) (share ps qs) e)
     go ih false k h = ih h
-
--- line
-pub line-append : (p : ℕ) (xs ys : List Change) → line p (xs ++ ys) ≡ line p xs ++ line p ys
-line-append p [] ys = refl
-line-append p (c ∷ xs) ys = go (line-append p xs ys) (has (c .parts) p)
-  where
-    go : line p (xs ++ ys) ≡ line p xs ++ line p ys → (b : Bool) → cond b (c .number ∷ line p (xs ++ ys)) (line p (xs ++ ys)) ≡ cond b (c .number ∷ line p xs) (line p xs) ++ line p ys
-    go ih true = ap (λ (r : List ℕ). c .number ∷ r) ih
-    go ih false = ih
 
 pub line-without : (p : ℕ) (c : Change) → has (c .parts) p ≡ false → line p (c ∷ []) ≡ []
 line-without p c e = ap (λ (b : Bool). cond b (c .number ∷ []) []) e

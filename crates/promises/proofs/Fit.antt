@@ -92,11 +92,14 @@ roomy-step t q e a k = roomy-decided (recorded q e) (roomy-recorded t q e a k)
 roomy-day : (t : Config) (es : List Event) → Roomy-in (replayed t empty es)
 roomy-day t es = day-keeps t Roomy-in (roomy-step t) es empty (record { waiting = omega arith; landed = omega arith; rejected = omega arith })
 
+pub room-day : (t : Config) (es : List Event) → (length (replayed t empty es .landed) + length (replayed t empty es .waiting) ≤ most-landed) × (length (replayed t empty es .rejected) + length (replayed t empty es .waiting) ≤ most-rejected)
+room-day t es = (roomy-day t es .landed, roomy-day t es .rejected)
+
 length-held : (q : Queue) → length (held q) ≡ length (q .verdicts) + length (q .running)
 length-held q = omega (arith, length-append (known (q .verdicts)) (q .running), length-map (q .verdicts) (λ (v : Verdict). v .run))
 
 -- with the first change that waits, a useful run of which nothing is known
-few-verdicts : (t : Config) (es : List Event) → t .depth ≤ most-depth → length (replayed t empty es .verdicts) < most-verdicts
+pub few-verdicts : (t : Config) (es : List Event) → t .depth ≤ most-depth → length (replayed t empty es .verdicts) < most-verdicts
 few-verdicts t es d = go (cases-lt 0 (t .depth)) (cases-lt 0 (length (q .waiting)))
   where
     q : Queue

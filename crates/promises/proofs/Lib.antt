@@ -14,4 +14,5 @@ pub mod Count
 pub mod Fit
 pub mod Falling
 pub mod Excluded
+pub mod Checked
 pub mod Reading

@@ -8,10 +8,11 @@ use lib.Dec.{eqb}
 use lib.ListN.{length}
 use Rattle.std.proofs.shelf.Tests.{eqb-true, eqb-false, eq-eqb, ne-eqb, or-from}
 use Rattle.std.specs.shelf.Lists.{All}
+use Rattle.change.proofs.Changes.{line-append}
 use Rattle.change.specs.Change.{Change, has, line, numbered, dropped}
 use Rattle.serial.specs.Serial.{Bench, passes, serial-landed, serial-rejected}
 use Rattle.promises.specs.Day.{not-waiting}
-use Rattle.promises.proofs.Basics.{clash, neither-left, neither-right, or-swap, off-sym, line-append, line-without, numbered-append, numbered-push, length-place}
+use Rattle.promises.proofs.Basics.{clash, neither-left, neither-right, or-swap, off-sym, line-without, numbered-append, numbered-push, length-place}
 use Rattle.promises.proofs.Serial.{line-skip, Loose, passes-insert, all-out, all-at}
 
 pub data Mark : Type 0 where

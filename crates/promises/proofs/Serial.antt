@@ -4,9 +4,10 @@ use mathlib.Core.Bool.{Bool, true, false, cond, _&&_}
 use mathlib.Core.List.{List, [], _∷_, _++_}
 use Prim.Native.Nat.{ℕ}
 use Rattle.std.specs.shelf.Lists.{All}
+use Rattle.change.proofs.Changes.{line-append}
 use Rattle.change.specs.Change.{Change, has, line}
 use Rattle.serial.specs.Serial.{Bench, passes-on, passes}
-use Rattle.promises.proofs.Basics.{Off, line-append, line-off, has-head, has-tail}
+use Rattle.promises.proofs.Basics.{Off, line-off, has-head, has-tail}
 
 -- two main lines are alike where they are the same on every part
 abbrev pub Alike : List Change → List Change → Type 0

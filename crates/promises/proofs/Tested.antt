@@ -8,6 +8,7 @@ use lib.Dec.{eqb}
 use lib.ListN.{length, getD, take}
 use Rattle.std.proofs.shelf.Tests.{eqb-true}
 use Rattle.std.proofs.shelf.Elements.{all-push}
+use Rattle.change.proofs.Changes.{line-append}
 use Rattle.change.specs.Change.{Change, has, line}
 use Rattle.run.specs.Run.{Run, Verdict, same-run}
 use Rattle.serial.specs.Serial.{Bench, passes-on, passes}
@@ -16,7 +17,7 @@ use Rattle.queue.specs.Queue.{Config, Queue, empty, Event, submit, withdraw, re
 use Rattle.queue.specs.WorkedDay.{run}
 use Rattle.promises.specs.Day.{blank, reported-by, logged, said-good}
 use Rattle.promises.specs.Promises.{Every-state-tested}
-use Rattle.promises.proofs.Basics.{both-left, both-right, line-append, line-with, all-kept}
+use Rattle.promises.proofs.Basics.{both-left, both-right, line-with, all-kept}
 use Rattle.promises.proofs.Pass.{Vouched, same-run-refl, says, good-passes, pass-all}
 use Rattle.promises.proofs.Days.{log-keeps}
 

@@ -11,12 +11,13 @@ use Rattle.std.proofs.shelf.Tests.{eqb-true, eq-eqb, not-true, leb-true, or-cas
 use Rattle.std.specs.shelf.Lists.{All}
 use Rattle.std.specs.Options.{isSome}
 use Rattle.std.specs.declared.option.Option.the-variants.{Some}
+use Rattle.change.proofs.Changes.{line-append, length-line-le}
 use Rattle.change.specs.Change.{part-limit, most-parts, Change, has, line, numbered, fault-from, fault}
 use Rattle.run.specs.Run.{Run, same-run, run-on, runs-on}
 use Rattle.plan.specs.Plan.{useful, among}
 use Rattle.queue.specs.Queue.{proper}
 use Rattle.promises.specs.Day.{Different, parts-in, Begins}
-use Rattle.promises.proofs.Basics.{clash, not-so, neither-left, neither-right, both-left, both-right, Off, off-sym, line-append, line-off, has-head, has-tail}
+use Rattle.promises.proofs.Basics.{clash, not-so, neither-left, neither-right, both-left, both-right, Off, off-sym, line-off, has-head, has-tail}
 use Rattle.promises.proofs.Serial.{Alike, alike-push, off-swap, Apart}
 use Rattle.promises.proofs.Pass.{same-run-is}
 use Rattle.promises.proofs.Runs.{among-head, among-left, among-right, among-cases, Sub}
@@ -175,19 +176,11 @@ useful-parts (suc n) [] xs = omega arith
 useful-parts (suc n) (w ∷ ws) xs = omega (arith, length-append (runs-on xs (w .number) (w .parts)) (useful n (xs ++ w ∷ []) ws), length-runs-on xs (w .number) (w .parts), useful-parts n ws (xs ++ w ∷ []))
 
 -- a useful run is its part's whole landed line, and then no more changes than are looked at
-length-line : (p : ℕ) (cs : List Change) → length (line p cs) ≤ length cs
-length-line p [] = omega arith
-length-line p (c ∷ cs) = go (length-line p cs) (has (c .parts) p)
-  where
-    go : length (line p cs) ≤ length cs → (b : Bool) → length (cond b (c .number ∷ line p cs) (line p cs)) ≤ suc (length cs)
-    go ih true = omega arith
-    go ih false = omega arith
-
 run-begins : (L : List Change) (k : ℕ) (pre : List Change) (n p : ℕ) → length pre < k → Begins L k (run-on (L ++ pre) n p)
 run-begins L k pre n p l = record {
   following = line p pre ++ n ∷ [];
   is = ap (λ (w : List ℕ). w ++ n ∷ []) (line-append p L pre) ∙ append-assoc (line p L) (line p pre) (n ∷ []);
-  few = omega (arith, length-append (line p pre) (n ∷ []), length-line p pre);
+  few = omega (arith, length-append (line p pre) (n ∷ []), length-line-le p pre);
 }
 
 runs-begin : (L : List Change) (k : ℕ) (pre : List Change) (n : ℕ) (ps : List ℕ) → length pre < k → (r : Run) → among r (runs-on (L ++ pre) n ps) ≡ true → Begins L k r

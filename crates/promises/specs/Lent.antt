@@ -1,15 +1,18 @@
 -- The day over lent numbers, and the first two promises over it. Assumes nothing: these are definitions.
 use mathlib.Core.Path.{_≡_}
-use mathlib.Core.Bool.{Bool, true, false, cond}
+use mathlib.Core.Bool.{Bool, true, false, cond, _&&_}
 use mathlib.Core.List.{List, [], _∷_}
-use Prim.Native.Nat.{ℕ}
-use lib.ListN.{drop}
+use Prim.Native.Nat.{ℕ, zero, suc}
+use lib.Dec.{ltb, leb}
+use lib.ListN.{length, getD, drop}
 use Rattle.queue.specs.declared.reply.Reply.{Reply}
 use Rattle.queue.specs.declared.reply.Reply.the-variants.{Done, Refused}
+use Rattle.change.specs.Change.{most-parts}
 use Rattle.serial.specs.Serial.{Bench}
-use Rattle.queue.specs.Layout.{queue-length}
+use Rattle.queue.specs.Layout.{number-limit, queue-length, event-length}
 use Rattle.queue.specs.Queue.{Config, Queue, empty, Event, accepts, after, replayed}
 use Rattle.queue.specs.Numbers.{decode, encode, event-in}
+use Rattle.queue.specs.Refusals.{report-kind}
 use Rattle.queue.specs.Entry.{config, opened, stepped}
 use Rattle.promises.specs.Day.{logged, Truthful}
 use Rattle.promises.specs.Promises.{As-serial, All-tested}
@@ -45,6 +48,23 @@ Lent-days =
     All-accepted t empty es
     × (lent-day xs ess ≡ encode t (replayed t empty es) (drop queue-length slice))
     × (decode (lent-day xs ess) ≡ replayed t empty es)
+
+-- eleven numbers at least, of a known kind, with a number that is small enough, and for a submission with no more parts than a record has room for
+abbrev pub parts-counted : ℕ → List ℕ → Bool
+parts-counted zero es = leb (getD es 2 0) most-parts
+parts-counted (suc kind) es = true
+
+abbrev pub well-formed : List ℕ → Bool
+well-formed es =
+    (leb event-length (length es) && (leb (getD es 0 0) report-kind && ltb (getD es 1 0) number-limit)) && parts-counted (getD es 0 0) es
+
+-- In such a day an event is taken exactly if it is well formed, the queue takes it on records, and fewer than 2 ^ 32 runs were requested. So the checks of the
+-- numbers themselves and of room for a verdict never refuse.
+abbrev pub Lent-taken : Type 0
+Lent-taken =
+    (slice : List ℕ) (b k : ℕ) (ess : List (List ℕ)) → is-done (opened slice b k .0) ≡ true → (es : List ℕ) →
+    let xs = lent-day (opened slice b k .1) ess in
+    is-done (stepped xs es .0) ≡ (well-formed es && (accepts (config b k) (decode xs) (event-in es) && ltb (decode xs .requested) number-limit))
 
 -- Serial-equivalence, of what the numbers say.
 abbrev pub Lent-serial-equivalence : Type 0

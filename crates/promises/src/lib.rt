@@ -1,6 +1,6 @@
 // The promises of whole days, each the contract of a function.
 ghost use Rattle.promises.specs.Promises.{Serial-equivalence, Every-state-tested, Never-idle, Fully-booked, Only-useful-runs, Each-run-once, Waste-bounded, Decided-when-known, Config-independent, Decisions-final, Verdicts-fit, Progress};
-ghost use Rattle.promises.specs.Lent.{Lent-days, Lent-serial-equivalence, Lent-every-state-tested};
+ghost use Rattle.promises.specs.Lent.{Lent-days, Lent-taken, Lent-serial-equivalence, Lent-every-state-tested};
 ghost use Rattle.promises.specs.Wrong.{Wrong-queues};
 
 // The decisions are those of serial testing, if the reports taken are what the bench says.
@@ -90,6 +90,13 @@ pub fn progress() -> u8
 // The day over lent numbers is the day on records.
 pub fn lent_days() -> u8
     ensures { λ _. ⌜ Lent-days ⌝ }
+{
+    0
+}
+
+// An event is taken over lent numbers exactly if it is taken on records and is well formed.
+pub fn lent_taken() -> u8
+    ensures { λ _. ⌜ Lent-taken ⌝ }
 {
     0
 }
