@@ -11,6 +11,7 @@ use Rattle.change.proofs.Changes.{line-append}
 use Rattle.change.specs.Change.{Change, has, share, line, numbered}
 use Rattle.plan.specs.Plan.{kept}
 
+-- a test does not both hold and fail
 pub clash : {A : Type 0} → {b : Bool} → b ≡ true → b ≡ false → A
 clash p q = absurd (true≢false (sym p ∙ q))
 
@@ -19,6 +20,7 @@ pub not-so : (b : Bool) → (b ≡ true → ⊥) → b ≡ false
 not-so true k = absurd (k refl)
 not-so false k = refl
 
+-- if one of two tests would do and both fail, each fails; if both must hold and do, each holds
 pub neither-left : (a b : Bool) → (a || b) ≡ false → a ≡ false
 neither-left true b e = e
 neither-left false b e = refl
@@ -27,6 +29,7 @@ pub neither-right : (a b : Bool) → (a || b) ≡ false → b ≡ false
 neither-right true b e = absurd (true≢false e)
 neither-right false b e = e
 
+-- the order of tests does not matter
 pub or-swap : (a b c : Bool) → (a || (b || c)) ≡ (b || (a || c))
 or-swap true true c = refl
 or-swap true false c = refl
@@ -44,6 +47,7 @@ both-right false b e = absurd (true≢false (sym e))
 abbrev pub Off : List ℕ → List ℕ → Type 0
 Off ps qs = (p : ℕ) → has ps p ≡ true → has qs p ≡ false
 
+-- which goes both ways, and is what the test of sharing says
 pub off-sym : (ps qs : List ℕ) → Off ps qs → Off qs ps
 off-sym ps qs o p h = go (has ps p) refl
   where
@@ -59,6 +63,7 @@ share-off (q ∷ ps) qs e p h = go (share-off ps qs (neither-right (has qs q) (s
     go ih true k h = subst (λ (x : ℕ). has qs x ≡ false) (eqb-true q p k) (neither-left (has qs q) (share ps qs) e)
     go ih false k h = ih h
 
+-- the line of one change
 pub line-without : (p : ℕ) (c : Change) → has (c .parts) p ≡ false → line p (c ∷ []) ≡ []
 line-without p c e = ap (λ (b : Bool). cond b (c .number ∷ []) []) e
 
@@ -69,7 +74,7 @@ line-with p c e = ap (λ (b : Bool). cond b (c .number ∷ []) []) e
 pub line-off : (p : ℕ) (xs : List Change) (c : Change) → has (c .parts) p ≡ false → line p (xs ++ c ∷ []) ≡ line p xs
 line-off p xs c e = line-append p xs (c ∷ []) ∙ ap (λ (r : List ℕ). line p xs ++ r) (line-without p c e) ∙ append-nil (line p xs)
 
--- numbered
+-- numbers in a list made of others
 pub numbered-append : (n : ℕ) (xs ys : List Change) → numbered n (xs ++ ys) ≡ (numbered n xs || numbered n ys)
 numbered-append n [] ys = refl
 numbered-append n (c ∷ xs) ys = ap (_||_ (eqb (c .number) n)) (numbered-append n xs ys) ∙ sym (or-assoc (eqb (c .number) n) (numbered n xs) (numbered n ys))
@@ -96,10 +101,12 @@ all-kept P test (x ∷ xs) h = go (all-kept P test xs (h .1)) (test x)
     go ih true = (h .0, ih)
     go ih false = ih
 
+-- a filter that all pass keeps all
 pub kept-all : {A : Type 0} (test : A → Bool) (xs : List A) → All (λ x. test x ≡ true) xs → kept test xs ≡ xs
 kept-all test [] h = refl
 kept-all test (x ∷ xs) h = ap (λ (b : Bool). cond b (x ∷ kept test xs) (kept test xs)) (h .0) ∙ ap (λ (r : List _). x ∷ r) (kept-all test xs (h .1))
 
+-- one more stands in the list, wherever it stands
 pub length-place : {A : Type 0} (xs : List A) (x : A) (ys : List A) → length (xs ++ x ∷ ys) ≡ suc (length (xs ++ ys))
 length-place [] x ys = refl
 length-place (y ∷ xs) x ys = ap suc (length-place xs x ys)

@@ -45,6 +45,7 @@ mapped-from f o e = ap (mapped f) e
 abbrev From : {A : Type 0} → (A → List ℕ) → List A → ℕ → List ℕ → Type 0
 From row cs at xs = (rest : List ℕ) × (drop at xs ≡ joined row cs ++ rest)
 
+-- a section that was written holds its records from its start on
 from-section : {A : Type 0} (row : A → List ℕ) (m : ℕ) (cs : List A) (at : ℕ) (xs : List ℕ) → take m (drop at xs) ≡ table row m cs → From row cs at xs
 unfolding table
 from-section row m cs at xs e =
@@ -116,6 +117,7 @@ pub record Says (t : Config) (q : Queue) (behind xs : List ℕ) : Type 0 where
   pub running-count-is : getD xs running-count 0 ≡ length (q .running)
   pub requested-is : getD xs requested-at 0 ≡ q .requested
 
+-- the numbers are as long as the layout says
 long-whole : (s : Sections) → Sized s → queue-length ≤ length (whole s)
 long-whole s z = omega (
   arith,
@@ -133,6 +135,7 @@ long-whole s z = omega (
   length-append (s .running) (s .behind),
 )
 
+-- the numbers of a queue that fits say it
 pub says-encode : (t : Config) (q : Queue) (behind : List ℕ) → Fits q → Says t q behind (encode t q behind)
 unfolding encode
 says-encode t q behind f =
@@ -151,11 +154,13 @@ says-encode t q behind f =
       requested-is = refl;
     }
 
+-- no change has too many parts
 changes-checked : (cs : List Change) (count at most : ℕ) (xs : List ℕ) → All Small cs → getD xs count 0 ≡ length cs → take (change-width * most) (drop at xs) ≡ changes-section most cs → changes-check count at xs ≡ None
 changes-checked cs count at most xs a n e = mapped-from Malformed (over change-width 1 most-parts (getD xs count 0) at xs)
     (ap (λ (k : ℕ). over change-width 1 most-parts k at xs) n
     ∙ over-none Small change-row change-width 1 most-parts length-change-row (omega arith) (λ c s. s) cs a at xs (from-section change-row (change-width * most) cs at xs e))
 
+-- so none of the checks of a queue refuses
 pub queue-checked : (t : Config) (q : Queue) (behind xs : List ℕ) → Fits q → length (q .landed) + length (q .waiting) ≤ most-landed → length (q .rejected) + length (q .waiting) ≤ most-rejected → Says t q behind xs →
     queue-check xs ≡ None
 unfolding decode

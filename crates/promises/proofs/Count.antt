@@ -41,6 +41,7 @@ good-known vs (s ∷ rs) e r h = elim (among-cases r (s ∷ []) rs h) [
     heard-some Good i = refl
     heard-some Bad i = refl
 
+-- the parts of a list with one more change
 parts-push : (cs : List Change) (c : Change) → parts-in (cs ++ c ∷ []) ≡ parts-in cs + length (c .parts)
 parts-push [] c = omega arith
 parts-push (d ∷ cs) c = omega (arith, parts-push cs c)
@@ -58,6 +59,7 @@ record Account (n b₀ gone : ℕ) (held : List Run) (L₀ L W B : List Change) 
   pub more : b₀ ≤ length B
   pub cover : gone + length B ≡ b₀ → (r : Run) → among r held ≡ true → (among r runs ≡ true) ⊎ (among r (useful n L W) ≡ true)
 
+-- a change that lands adds its runs, which were known good
 account-land : (n b₀ gone : ℕ) (vs : List Verdict) (held : List Run) (L₀ : List Change) → Sub (known vs) held → Lands vs (Account n b₀ gone held L₀)
 account-land n b₀ gone vs held L₀ s L W₁ c W₂ B y k = record {
   neat = neat-land L W₁ c W₂ B (k .neat);
@@ -90,6 +92,7 @@ account-land n b₀ gone vs held L₀ s L W₁ c W₂ B y k = record {
     new : numbered (c .number) L ≡ false
     new = k .neat .apart (c .number) (numbered-place (c .number) W₁ c W₂ ∙ ap (λ (b : Bool). b || numbered (c .number) (W₁ ++ W₂)) (eq-eqb (c .number) (c .number) refl))
 
+-- a rejection gives up the cover, and keeps the rest
 account-reject : (n b₀ gone : ℕ) (vs : List Verdict) (held : List Run) (L₀ : List Change) → Rejects vs (Account n b₀ gone held L₀)
 account-reject n b₀ gone vs held L₀ L W₁ c W₂ B y k = record {
   neat = neat-reject L W₁ c W₂ B (k .neat);
@@ -121,6 +124,7 @@ Account-of t q e =
     let p = decided (recorded q e) in
     Account (t .depth) (length (q .rejected)) (withdrawn-by e) (held q) (q .landed) (p .landed) (p .waiting) (p .rejected)
 
+-- the account of one event
 account : (t : Config) (q : Queue) (e : Event) → accepts t q e ≡ true → Orderly t q → Account-of t q e
 unfolding decided
 account t q e a o = pass-all (p .verdicts) (Account (t .depth) (length (q .rejected)) (withdrawn-by e) (held q) (q .landed))
@@ -169,6 +173,7 @@ least-gone t q e a o k = omega (arith, length-append (k .runs) still, pigeons (k
       | inr j ↦ both-right (among r (useful-in t (decided (recorded q e)))) (among r (held q)) (sym (among-still t q e a r) ∙ j)
     ]
 
+-- and if nothing was rejected or withdrawn, nothing else is gone
 most-gone : (t : Config) (q : Queue) (e : Event) → accepts t q e ≡ true → Orderly t q → (k : Account-of t q e) → withdrawn-by e + length (decided (recorded q e) .rejected) ≡ length (q .rejected) →
     length (held q) ≤ length (k .runs) + length (still-held t (decided (recorded q e)))
 most-gone t q e a o k h = omega (arith, length-append (k .runs) still, pigeons (held q) (k .runs ++ still) (o .different) there)
@@ -182,6 +187,7 @@ most-gone t q e a o k h = omega (arith, length-append (k .runs) still, pigeons (
       | inr l ↦ among-right r (k .runs) still (among-still t q e a r ∙ and-from (among r (useful-in t (decided (recorded q e)))) (among r (held q)) l j)
     ]
 
+-- never more is held than is useful
 pub held-few : (t : Config) (q : Queue) → Orderly t q → length (held q) ≤ most-parts * t .depth
 held-few t q o = omega (arith, pigeons (held q) (useful-in t q) (o .different) (o .useful), useful-few (t .depth) (q .waiting) (q .landed) (o .neat .waiting))
 
@@ -217,12 +223,14 @@ without-sub (suc i) (s ∷ rs) r e = elim (among-cases r (s ∷ []) (without i r
   | inr j ↦ among-right r (s ∷ []) rs (without-sub i rs r j)
 ]
 
+-- recording and deciding start no run
 running-sub : (q : Queue) (e : Event) → Sub (decided (recorded q e) .running) (q .running)
 unfolding decided recorded
 running-sub q (submit c) r h = h
 running-sub q (withdraw n) r h = h
 running-sub q (report i g) r h = without-sub i (q .running) r h
 
+-- of the runs that run now, those that did not run before are the requests
 requests-are : (t : Config) (q : Queue) (e : Event) → accepts t q e ≡ true → (k : Replanned t (decided (recorded q e)) (step t q e)) → new-runs (q .running) (step t q e .running) ≡ k .new
 requests-are t q e a k =
     ap (kept test) (k .running-is) ∙ kept-append test still (k .new)
@@ -241,7 +249,7 @@ requests-are t q e a k =
     test : Run → Bool
     test r = not (among r (q .running))
 
--- THE DAY
+-- THE DAY: how many runs were requested, and which
 record Counted (t : Config) (q : Queue) (g : Log) : Type 0 where
   pub orderly : Orderly t q
   pub requested-is : q .requested ≡ length (g .requests)
@@ -249,6 +257,7 @@ record Counted (t : Config) (q : Queue) (g : Log) : Type 0 where
   pub most : q .requested ≤ parts-in (q .landed) + length (held q) + (length (q .rejected) + g .withdrawn) * (most-parts * t .depth)
   pub once : length (q .rejected) + g .withdrawn ≡ 0 → Different (g .requests) × ((r : Run) → among r (g .requests) ≡ true → (among r (held q) ≡ true) ⊎ (numbered (last r) (q .landed) ≡ true))
 
+-- every event keeps the count
 counted-step : (t : Config) (q : Queue) (g : Log) (e : Event) → accepts t q e ≡ true → Counted t q g → Counted t (step t q e) (with-event t q e g)
 counted-step t q g e a c = record {
   orderly = orderly-step t q e a o;

@@ -18,13 +18,16 @@ log-keeps t P k (e ∷ es) q g h = log-keeps t P k es (after t q e) (cond (accep
     go true a = k q g e a h
     go false a = h
 
+-- the same of the queue alone
 pub day-keeps : (t : Config) (P : Queue → Type 0) → ((q : Queue) (e : Event) → accepts t q e ≡ true → P q → P (step t q e)) → (es : List Event) (q : Queue) → P q → P (replayed t q es)
 day-keeps t P k es q h = log-keeps t (λ q g. P q) (λ q g e a i. k q e a i) es q blank h
 
+-- an event that is taken is stepped
 pub after-taken : (t : Config) (q : Queue) (e : Event) → accepts t q e ≡ true → after t q e ≡ step t q e
 unfolding after
 after-taken t q e a = ap (λ (b : Bool). cond b (step t q e) q) a
 
+-- a day is replayed in two parts as in one
 replayed-append : (t : Config) (q : Queue) (es fs : List Event) → replayed t q (es ++ fs) ≡ replayed t (replayed t q es) fs
 unfolding replayed
 replayed-append t q [] fs = refl

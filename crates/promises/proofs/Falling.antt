@@ -29,6 +29,7 @@ use Rattle.promises.proofs.Fit.{all-verdicts}
 abbrev Fewer : List Change → List Change → List Change → List Change → List Change → Type 0
 Fewer L₀ W₀ L W B = (length W < length W₀) ⊎ ((L ≡ L₀) × (W ≡ W₀))
 
+-- a decision leaves fewer that wait
 fewer-out : (L₀ W₀ L W₁ : List Change) (c : Change) (W₂ B : List Change) → Fewer L₀ W₀ L (W₁ ++ c ∷ W₂) B → length (W₁ ++ W₂) < length W₀
 fewer-out L₀ W₀ L W₁ c W₂ B (inl l) = omega (arith, l, length-place W₁ c W₂)
 fewer-out L₀ W₀ L W₁ c W₂ B (inr k) = omega (arith, ap length (k .1), length-place W₁ c W₂)
@@ -56,6 +57,7 @@ verdicts-step : (t : Config) (q : Queue) (e : Event) → step t q e .verdicts �
 unfolding step planned decided
 verdicts-step t q e = refl
 
+-- so one more of the useful runs is known
 falls-report : (t : Config) (q : Queue) (i : ℕ) (g : Bool) → accepts t q (report i g) ≡ true → Orderly t q → useful-in t (step t q (report i g)) ≡ useful-in t q →
     length (useful-in t (step t q (report i g))) - length (step t q (report i g) .verdicts) < length (useful-in t q) - length (q .verdicts)
 unfolding recorded accepts
@@ -81,6 +83,7 @@ falls-report t q i g a o same = omega (
     held-still = verdicts-step t q (report i g) ∙ ap (λ (us : List Run). still-known us (q .verdicts ++ said ∷ [])) same
         ∙ kept-all (λ v. among (v .run) (useful-in t q)) (q .verdicts ++ said ∷ []) (all-verdicts (λ r. among r (useful-in t q) ≡ true) (q .verdicts ++ said ∷ []) all-useful)
 
+-- a withdrawal that is taken leaves fewer that wait
 length-dropped-one : (n : ℕ) (cs : List Change) → numbered n cs ≡ true → length (dropped n cs) < length cs
 length-dropped-one n [] e = absurd (true≢false (sym e))
 length-dropped-one n (c ∷ cs) e = go (length-dropped-one n cs) (eqb (c .number) n) e
@@ -89,6 +92,7 @@ length-dropped-one n (c ∷ cs) e = go (length-dropped-one n cs) (eqb (c .number
     go ih true h = omega arith
     go ih false h = omega (arith, ih h)
 
+-- in each case the measure falls
 falls : (t : Config) (q : Queue) (e : Event) → Not-submit e → accepts t q e ≡ true → Orderly t q → measure t (step t q e) < measure t q
 unfolding recorded accepts
 falls t q (submit c) x a o = absurd x
@@ -106,6 +110,7 @@ falls t q (report i g) x a o = go (fewer-step t q (report i g))
     go (inl l) = falls-waiting t q p (orderly-step t q (report i g) a o) l
     go (inr k) = omega (arith, ap (λ (ws : List Change). length ws * suc (most-parts * t .depth)) (k .1), falls-report t q i g a o (ap₂ (useful (t .depth)) (k .0) (k .1)))
 
+-- and it falls with each of a list of events that are taken
 falls-all : (t : Config) (fs : List Event) (q : Queue) → Orderly t q → All-taken t q fs → length fs + measure t (replayed t q fs) ≤ measure t q
 unfolding replayed
 falls-all t [] q o k = omega arith
@@ -118,6 +123,7 @@ falls-all t (e ∷ fs) q o k =
       falls t q e (k .0) (k .1) o,
     )
 
+-- a measure of 0 says that nobody waits
 nobody-waits : (t : Config) (q : Queue) → measure t q ≤ 0 → q .waiting ≡ []
 nobody-waits t q l = go (q .waiting) refl
   where

@@ -22,6 +22,7 @@ record Since (L₀ B₀ L W B : List Change) : Type 0 where
 abbrev Since-in : Queue → Queue → Type 0
 Since-in q r = Since (q .landed) (q .rejected) (r .landed) (r .waiting) (r .rejected)
 
+-- the pass, recording and requesting only add behind them
 since-decided : (q r : Queue) → Since-in q r → Since-in q (decided r)
 unfolding decided
 since-decided q r m =

@@ -66,6 +66,7 @@ accepts-roomy : (t : Config) (q : Queue) (c : Change) → accepts t q (submit c)
 unfolding accepts
 accepts-roomy t q c a = both-right (proper c) (roomy q) (both-right (fresh q (c .number)) (proper c && roomy q) a)
 
+-- a submission is taken only if there is room
 roomy-recorded : (t : Config) (q : Queue) (e : Event) → accepts t q e ≡ true → Roomy-in q → Roomy-in (recorded q e)
 unfolding recorded
 roomy-recorded t q (submit c) a k =
@@ -134,11 +135,13 @@ pub all-verdicts : (P : Run → Type 0) (vs : List Verdict) → All P (known vs)
 all-verdicts P [] a = tt
 all-verdicts P (v ∷ vs) a = (a .0, all-verdicts P vs (a .1))
 
+-- every run held is useful, and begins as useful runs do
 begins-day : (t : Config) (es : List Event) → All (Begins (replayed t empty es .landed) (t .depth)) (held (replayed t empty es))
 begins-day t es =
     let q = replayed t empty es in
     all-from (Begins (q .landed) (t .depth)) (held q) (λ r e. useful-begin (t .depth) (q .landed) (q .waiting) r (orderly t es .useful r e))
 
+-- so a reachable queue fits its sections
 pub fits-day : (t : Config) (es : List Event) → t .depth ≤ most-depth → t .benches ≤ most-benches → Fits (replayed t empty es)
 fits-day t es d b = record {
   landed = omega (arith, m .landed);

@@ -38,6 +38,7 @@ pub record Neat (L W B : List Change) : Type 0 where
 abbrev pub Neat-in : Queue → Type 0
 Neat-in q = Neat (q .landed) (q .waiting) (q .rejected)
 
+-- one of distinct numbers is not among the others
 distinct-place : (W₁ : List Change) (c : Change) (W₂ : List Change) → Distinct (W₁ ++ c ∷ W₂) → (numbered (c .number) (W₁ ++ W₂) ≡ false) × Distinct (W₁ ++ W₂)
 distinct-place [] c W₂ u = u
 distinct-place (w ∷ W₁) c W₂ u =
@@ -51,6 +52,7 @@ distinct-place (w ∷ W₁) c W₂ u =
 numbered-still : (n : ℕ) (W₁ : List Change) (c : Change) (W₂ : List Change) → numbered n (W₁ ++ W₂) ≡ true → numbered n (W₁ ++ c ∷ W₂) ≡ true
 numbered-still n W₁ c W₂ e = numbered-place n W₁ c W₂ ∙ ap (_||_ (eqb (c .number) n)) e ∙ or-true (eqb (c .number) n)
 
+-- a decision keeps changes neat
 pub neat-land : (L W₁ : List Change) (c : Change) (W₂ B : List Change) → Neat L (W₁ ++ c ∷ W₂) B → Neat (L ++ c ∷ []) (W₁ ++ W₂) B
 neat-land L W₁ c W₂ B k = record {
   landed = all-push Proper L c (k .landed) (all-at Proper W₁ c W₂ (k .waiting));
@@ -87,6 +89,7 @@ accepts-proper : (t : Config) (q : Queue) (c : Change) → accepts t q (submit c
 unfolding accepts
 accepts-proper t q c a = proper-is c (both-left (proper c) (roomy q) (both-right (fresh q (c .number)) (proper c && roomy q) a))
 
+-- recording an event that is taken keeps them neat
 pub neat-recorded : (t : Config) (q : Queue) (e : Event) → accepts t q e ≡ true → Neat-in q → Neat-in (recorded q e)
 unfolding recorded
 neat-recorded t q (submit c) a k = record {
@@ -122,6 +125,7 @@ neat-recorded t q (report i g) a k = k
 abbrev pub known : List Verdict → List Run
 known vs = map (λ v. v .run) vs
 
+-- nothing is known of a run if no verdict is on it, and it lacks if it is not held
 pub unknown-is : (r : Run) (vs : List Verdict) → is-unknown (heard r vs) ≡ not (among r (known vs))
 unknown-is r [] = refl
 unknown-is r (v ∷ vs) = go (unknown-is r vs) (same-run r (v .run)) (v .good)
@@ -155,6 +159,7 @@ taken-out (suc i) (r ∷ rs) l =
 among-moved : (x : Run) (K A : List Run) (r : Run) (B : List Run) → among x (K ++ r ∷ (A ++ B)) ≡ among x (K ++ (A ++ r ∷ B))
 among-moved x K A r B = among-append x K (r ∷ (A ++ B)) ∙ ap (_||_ (among x K)) (sym (among-place x A r B)) ∙ sym (among-append x K (A ++ r ∷ B))
 
+-- a run that moves leaves the others different
 different-moved : (K A : List Run) (r : Run) (B : List Run) → Different (K ++ (A ++ r ∷ B)) → Different (K ++ r ∷ (A ++ B))
 different-moved [] [] r B d = d
 different-moved [] (x ∷ A) r B d =
@@ -217,6 +222,7 @@ pub record Filled (b : ℕ) (known still us rs : List Run) : Type 0 where
   pub different : Different (known ++ rs)
   pub few : length rs ≤ b
 
+-- requests are useful, were not held, and keep to the benches
 filled : (b : ℕ) (vs : List Verdict) (us still : List Run) → Different (known vs ++ still) → length still ≤ b → Filled b (known vs) still us (request b vs still us)
 filled b vs us still d l = request-keeps b vs us (Filled b (known vs) still us)
     (λ rs u m k o h. record {
@@ -298,6 +304,7 @@ length-kept test (r ∷ rs) = go (length-kept test rs) (test r)
 abbrev pub still-held : Config → Queue → List Run
 still-held t q = kept (λ r. among r (useful-in t q)) (held q)
 
+-- so what is kept of both is what is kept of the runs held
 still-held-is : (t : Config) (q : Queue) → known (still-known (useful-in t q) (q .verdicts)) ++ still-running (useful-in t q) (q .running) ≡ still-held t q
 still-held-is t q = ap (λ (rs : List Run). rs ++ still-running (useful-in t q) (q .running)) (known-still (useful-in t q) (q .verdicts)) ∙ sym (kept-append (λ r. among r (useful-in t q)) (known (q .verdicts)) (q .running))
 
@@ -311,6 +318,7 @@ pub record Replanned (t : Config) (q p : Queue) : Type 0 where
   pub different : Different (held p)
   pub few : length (p .running) ≤ t .benches
 
+-- planning keeps what is still useful and adds what it requests
 replanned : (t : Config) (q : Queue) → Different (held q) → length (q .running) ≤ t .benches → Replanned t q (planned t q)
 unfolding planned
 replanned t q d l = record {
@@ -341,7 +349,7 @@ replanned t q d l = record {
     now : known vs ++ request (t .benches) vs still us ≡ still-held t q ++ k .new
     now = ap (λ (rs : List Run). known vs ++ rs) (k .is) ∙ sym (append-assoc (known vs) still (k .new)) ∙ ap (λ (rs : List Run). rs ++ k .new) (still-held-is t q)
 
--- THE DAY
+-- THE DAY: what holds of every reachable queue
 pub record Orderly (t : Config) (q : Queue) : Type 0 where
   pub neat : Neat-in q
   pub useful : Sub (held q) (useful-in t q)
@@ -364,6 +372,7 @@ pub ready : (t : Config) (q : Queue) (e : Event) → accepts t q e ≡ true → 
 unfolding step decided
 ready t q e a o = replanned t (decided (recorded q e)) (moved t q e a .different (o .different)) (few-recorded (t .benches) q e (o .few))
 
+-- every event that is taken keeps the queue orderly
 pub orderly-step : (t : Config) (q : Queue) (e : Event) → accepts t q e ≡ true → Orderly t q → Orderly t (step t q e)
 unfolding step planned
 orderly-step t q e a o =

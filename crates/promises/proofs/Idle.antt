@@ -31,6 +31,7 @@ use Rattle.promises.proofs.Held.{known, unknown-is, booked}
 abbrev Open : List Verdict → List Change → Change → Type 0
 Open ks L c = (any-bad (runs-on L (c .number) (c .parts)) ks ≡ false) × (all-good (runs-on L (c .number) (c .parts)) ks ≡ false)
 
+-- changes that have no part in common do not share one, by the test
 off-share : (ps qs : List ℕ) → Off ps qs → share ps qs ≡ false
 off-share [] qs o = refl
 off-share (p ∷ ps) qs o = or-from (has qs p) (share ps qs) (o p (has-head p ps)) (off-share ps qs (λ q h. o q (has-tail p ps q h)))
@@ -39,6 +40,7 @@ apart-shares : (c : Change) (ws : List Change) → Apart c ws → shares-any c w
 apart-shares c [] a = refl
 apart-shares c (w ∷ ws) a = or-from (share (c .parts) (w .parts)) (shares-any c ws) (off-share (c .parts) (w .parts) (a .0)) (apart-shares c ws (a .1))
 
+-- a change that waits, and shares no part with one before it, is open
 waits-open : (ks : List Verdict) (L H : List Change) (c : Change) → Why-wait ks L H c → Apart c H → Open ks L c
 waits-open ks L H c (for-parts e) a = clash e (apart-shares c H a)
 waits-open ks L H c (for-runs i j) a = (i, j)
@@ -53,6 +55,7 @@ abbrev Row : (List Change → Change → Type 0) → List Change → List Change
 Row Q pre [] = Unit {0}
 Row Q pre (w ∷ ws) = Q pre w × Row Q (pre ++ w ∷ []) ws
 
+-- such rows grow at their end, are read at any place, and change with what they say
 row-push : (Q : List Change → Change → Type 0) (pre ws : List Change) (c : Change) → Row Q pre ws → Q (pre ++ ws) c → Row Q pre (ws ++ c ∷ [])
 row-push Q pre [] c r q = (subst (λ (x : List Change). Q x c) (append-nil pre) q, tt)
 row-push Q pre (w ∷ ws) c r q = (r .0, row-push Q (pre ++ w ∷ []) ws c (r .1) (subst (λ (x : List Change). Q x c) (sym (append-assoc pre (w ∷ []) ws)) q))
@@ -97,6 +100,7 @@ heard-still us r (v ∷ vs) = go (heard-still us r vs) (same-run r (v .run)) ref
     go ih false k true j = ap (λ (x : Bool). cond x said (heard r (still-known us vs))) k ∙ ih
     go ih false k false j = ih
 
+-- so dropping verdicts makes no run bad and no run good
 any-bad-still : (us rs : List Run) (vs : List Verdict) → any-bad rs vs ≡ false → any-bad rs (still-known us vs) ≡ false
 any-bad-still us [] vs e = refl
 any-bad-still us (r ∷ rs) vs e =
@@ -121,6 +125,7 @@ all-good-still us (r ∷ rs) vs e = go (all-good-still us rs vs) (and-cases (is-
 abbrev Open-in : Queue → Type 0
 Open-in q = (before : List Change) (c : Change) (rest : List Change) → q .waiting ≡ before ++ c ∷ rest → Apart c before → Open (q .verdicts) (q .landed) c
 
+-- so every change that waits after an event is open if it shares no part with one before it
 open-step : (t : Config) (q : Queue) (e : Event) → Open-in (step t q e)
 unfolding step planned decided
 open-step t q e before c rest w a = (any-bad-still us rs (p .verdicts) (k .0), all-good-still us rs (p .verdicts) (k .1))
@@ -175,6 +180,7 @@ useful-none (suc n) xs = refl
 abbrev Booked : Config → Queue → Type 0
 Booked t q = length (q .running) < t .benches → Sub (useful-in t q) (held q)
 
+-- after every event a bench is free only if every useful run is held
 booked-step : (t : Config) (q : Queue) (e : Event) → Booked t (step t q e)
 unfolding step planned
 booked-step t q e l =
@@ -218,6 +224,7 @@ among-some : (r : Run) (rs : List Run) → among r rs ≡ true → 0 < length rs
 among-some r [] e = absurd (true≢false (sym e))
 among-some r (s ∷ rs) e = omega arith
 
+-- if no run ran, that run would have been requested
 pub never-idle : Never-idle
 never-idle t es b d w = go (replayed t empty es .running) refl
   where

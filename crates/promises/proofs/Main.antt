@@ -44,6 +44,7 @@ record Place (f : Bench) (C L W₁ : List Change) (c : Change) (W₂ B : List Ch
   pub numbers : (n : ℕ) → numbered n L ≡ numbered n (lands m₁ ++ lands m₂)
   pub rejections : (n : ℕ) → numbered n B ≡ numbered n (rejects m₁ ++ rejects m₂)
 
+-- every change that waits has such a place
 place : (f : Bench) (C L W₁ : List Change) (c : Change) (W₂ B : List Change) → Matches f C L (W₁ ++ c ∷ W₂) B → Place f C L W₁ c W₂ B
 place f C L W₁ c W₂ B g = go (split (g .marks) W₁ c W₂ (g .wait-is))
   where
@@ -162,6 +163,7 @@ new-number f C q n e i =
     behind : (numbered n (q .waiting) || numbered n (q .rejected)) ≡ false
     behind = neither-right (numbered n (q .landed)) (numbered n (q .waiting) || numbered n (q .rejected)) e
 
+-- a submission waits behind all, a withdrawal leaves its place, a report is true
 inv-recorded : (f : Bench) (t : Config) (C : List Change) (q : Queue) (e : Event) → accepts t q e ≡ true → Truthful f (reported-by q e) → Inv f C q → Inv f (arrivals-with e C) (recorded q e)
 unfolding accepts recorded
 inv-recorded f t C q (submit c) a r i = record {
@@ -208,6 +210,7 @@ inv-day f t es = log-keeps t (λ q g. Truthful f (g .reports) → Inv f (g .arri
     es empty blank
     (λ r. record { matches = record { marks = []; arrived-is = refl; wait-is = refl; sound = tt; lines = λ p. refl; numbers = λ n. refl; rejections = λ n. refl }; distinct = tt; truthful = tt })
 
+-- so the decided arrivals, tested one at a time, land and are rejected as the marks say
 pub serial-equivalence : Serial-equivalence
 serial-equivalence f t es r = (
   λ p. i .matches .lines p ∙ sym (ap (line p) landed-is),

@@ -15,11 +15,13 @@ use Rattle.promises.specs.Day.{not-waiting}
 use Rattle.promises.proofs.Basics.{clash, neither-left, neither-right, or-swap, off-sym, line-without, numbered-append, numbered-push, length-place}
 use Rattle.promises.proofs.Serial.{line-skip, Loose, passes-insert, all-out, all-at}
 
+-- what became of a change that arrived
 pub data Mark : Type 0 where
   wait : Change → Mark
   land : Change → Mark
   reject : Change → Mark
 
+-- by the marks: those that arrived, wait, are decided, landed and were rejected, each in arrival order
 abbrev pub arrived : List Mark → List Change
 arrived [] = []
 arrived (wait c ∷ m) = c ∷ arrived m
@@ -50,6 +52,7 @@ rejects (wait c ∷ m) = rejects m
 rejects (land c ∷ m) = rejects m
 rejects (reject c ∷ m) = c ∷ rejects m
 
+-- a list with an element in it is not empty
 pub no-cons : (xs : List Change) (c : Change) (ys : List Change) → [] ≡ xs ++ c ∷ ys → ⊥
 no-cons xs c ys e = omega (arith, ap length e, length-place xs c ys)
 
@@ -64,6 +67,7 @@ pub record Split (m : List Mark) (W₁ : List Change) (c : Change) (W₂ : List 
   pub w₁ : waits m₁ ≡ W₁
   pub w₂ : waits m₂ ≡ W₂
 
+-- its marks are those before it, its own and those behind it
 pub split : (m : List Mark) (W₁ : List Change) (c : Change) (W₂ : List Change) → waits m ≡ W₁ ++ c ∷ W₂ → Split m W₁ c W₂
 split [] W₁ c W₂ e = absurd (no-cons W₁ c W₂ e)
 split (land d ∷ m) W₁ c W₂ e = let r = split m W₁ c W₂ e in record { m₁ = land d ∷ r .m₁; m₂ = r .m₂; is = ap (λ (x : List Mark). land d ∷ x) (r .is); w₁ = r .w₁; w₂ = r .w₂ }
@@ -74,6 +78,7 @@ split (wait w ∷ m) (x ∷ W₁) c W₂ e =
     let r = split m W₁ c W₂ (same .1) in
     record { m₁ = wait w ∷ r .m₁; m₂ = r .m₂; is = ap (λ (y : List Mark). wait w ∷ y) (r .is); w₁ = ap₂ (λ (y : Change) (ys : List Change). y ∷ ys) (same .0) (r .w₁); w₂ = r .w₂ }
 
+-- what the marks say is said of them part by part
 pub arrived-append : (m k : List Mark) → arrived (m ++ k) ≡ arrived m ++ arrived k
 arrived-append [] k = refl
 arrived-append (wait c ∷ m) k = ap (λ (r : List Change). c ∷ r) (arrived-append m k)
@@ -103,11 +108,12 @@ pub record Stands (f : Bench) (xs ws : List Change) (d : Change) : Type 0 where
   pub clear : All (Loose d) ws
   pub passing : passes f xs d ≡ true
 
--- why a change was rejected: it does not passing, whatever becomes of those that wait before it
+-- why a change was rejected: it does not pass, whatever becomes of those that wait before it
 pub record Falls (f : Bench) (xs ws : List Change) (d : Change) : Type 0 where
   pub clear : All (Loose d) ws
   pub failing : passes f xs d ≡ false
 
+-- each decided change stands for its reason, by what landed (xs) and what waits (ws) before it
 abbrev pub Sound : Bench → List Change → List Change → List Mark → Type 0
 Sound f xs ws [] = Unit {0}
 Sound f xs ws (wait c ∷ m) = Sound f xs (ws ++ c ∷ []) m
@@ -142,6 +148,7 @@ sound-join f (wait c ∷ m) k l xs ws q r = sound-join f m k l xs (ws ++ c ∷ [
 sound-join f (land d ∷ m) k l xs ws q r = (q .0, sound-join f m k l (xs ++ d ∷ []) ws (q .1) (subst (λ (a : List Change). Sound f a (ws ++ waits m) l) (sym (append-assoc xs (d ∷ []) (lands m))) r))
 sound-join f (reject d ∷ m) k l xs ws q r = (q .0, sound-join f m k l xs ws (q .1) r)
 
+-- a number in a list with one more change
 pub numbered-place : (n : ℕ) (V : List Change) (c : Change) (U : List Change) → numbered n (V ++ c ∷ U) ≡ (eqb (c .number) n || numbered n (V ++ U))
 numbered-place n V c U = numbered-append n V (c ∷ U) ∙ or-swap (numbered n V) (eqb (c .number) n) (numbered n U) ∙ ap (_||_ (eqb (c .number) n)) (sym (numbered-append n V U))
 
@@ -176,7 +183,7 @@ sound-land f (land d ∷ m) A X V c U k = (
 )
 sound-land f (reject d ∷ m) A X V c U k = (falls-land f A X V c U d (k .0), sound-land f m A X V c U (k .1))
 
--- what landed behind a change that still-running waits does not matter for it
+-- what landed behind a change that still waits does not matter for it
 pub passes-later : (f : Bench) (m : List Mark) (X V : List Change) (c : Change) (U : List Change) → Sound f X (V ++ c ∷ U) m → passes f (X ++ lands m) c ≡ passes f X c
 passes-later f [] X V c U k = ap (λ (x : List Change). passes f x c) (append-nil X)
 passes-later f (wait w ∷ m) X V c U k = passes-later f m X V c (U ++ w ∷ []) (subst (λ (b : List Change). Sound f X b m) (append-assoc V (c ∷ U) (w ∷ [])) k)
@@ -187,6 +194,7 @@ passes-later f (land d ∷ m) X V c U k =
     ∙ ap (λ (x : List Change). passes f x c) (append-nil X)
 passes-later f (reject d ∷ m) X V c U k = passes-later f m X V c U (k .1)
 
+-- nothing that landed behind it touches its parts
 lands-off : (f : Bench) (m : List Mark) (X V : List Change) (c : Change) (U : List Change) → Sound f X (V ++ c ∷ U) m → (p : ℕ) → has (c .parts) p ≡ true → line p (lands m) ≡ []
 lands-off f [] X V c U k p h = refl
 lands-off f (wait w ∷ m) X V c U k p h = lands-off f m X V c (U ++ w ∷ []) (subst (λ (b : List Change). Sound f X b m) (append-assoc V (c ∷ U) (w ∷ [])) k) p h
@@ -214,6 +222,7 @@ abbrev pub Distinct : List Change → Type 0
 Distinct [] = Unit {0}
 Distinct (c ∷ cs) = (numbered (c .number) cs ≡ false) × Distinct cs
 
+-- every number that arrived waits or is decided, and a decided one landed or was rejected
 pub numbers-split : (n : ℕ) (m : List Mark) → numbered n (arrived m) ≡ (numbered n (waits m) || numbered n (ended m))
 numbers-split n [] = refl
 numbers-split n (wait c ∷ m) = ap (_||_ (eqb (c .number) n)) (numbers-split n m) ∙ sym (or-assoc (eqb (c .number) n) (numbered n (waits m)) (numbered n (ended m)))
@@ -239,6 +248,7 @@ ended-apart m c n u e = go (eqb (c .number) n) refl
     go true k = clash e (neither-left (numbered n (waits m)) (numbered n (ended m)) (sym (numbers-split n m) ∙ subst (λ (x : ℕ). numbered x (arrived m) ≡ false) (eqb-true (c .number) n k) u))
     go false k = k
 
+-- no number both waits and is decided
 pub numbers-apart : (m : List Mark) → Distinct (arrived m) → (n : ℕ) → numbered n (waits m) ≡ true → numbered n (ended m) ≡ false
 numbers-apart [] u n e = refl
 numbers-apart (wait c ∷ m) u n e = go (numbers-apart m (u .1) n) (eqb (c .number) n) refl e
@@ -259,6 +269,7 @@ waits-not W c ds o = go (numbered (c .number) W) refl
 ended-tail : (W : List Change) (c : Change) (ds : List Change) → ((n : ℕ) → numbered n W ≡ true → numbered n (c ∷ ds) ≡ false) → (n : ℕ) → numbered n W ≡ true → numbered n ds ≡ false
 ended-tail W c ds o n e = neither-right (eqb (c .number) n) (numbered n ds) (o n e)
 
+-- so the arrivals that do not wait are the decided ones
 not-waiting-from : (W : List Change) (m : List Mark) → ((n : ℕ) → numbered n (waits m) ≡ true → numbered n W ≡ true) → ((n : ℕ) → numbered n W ≡ true → numbered n (ended m) ≡ false) → not-waiting (arrived m) W ≡ ended m
 not-waiting-from W [] i o = refl
 not-waiting-from W (wait c ∷ m) i o =
@@ -272,6 +283,7 @@ not-waiting-from W (reject c ∷ m) i o =
 pub not-waiting-is : (m : List Mark) → Distinct (arrived m) → not-waiting (arrived m) (waits m) ≡ ended m
 not-waiting-is m u = not-waiting-from (waits m) m (λ n e. e) (numbers-apart m u)
 
+-- a new number leaves numbers distinct
 pub distinct-push : (cs : List Change) (c : Change) → Distinct cs → numbered (c .number) cs ≡ false → Distinct (cs ++ c ∷ [])
 distinct-push [] c u e = (refl, tt)
 distinct-push (d ∷ cs) c u e = (
@@ -293,6 +305,7 @@ leave n (wait c ∷ m) = cond (eqb (c .number) n) m (wait c ∷ leave n m)
 leave n (land c ∷ m) = land c ∷ leave n m
 leave n (reject c ∷ m) = reject c ∷ leave n m
 
+-- only those that wait and those that arrived are fewer by it
 pub waits-leave : (n : ℕ) (m : List Mark) → waits (leave n m) ≡ dropped n (waits m)
 waits-leave n [] = refl
 waits-leave n (wait c ∷ m) = go (waits-leave n m) (eqb (c .number) n)

@@ -25,6 +25,7 @@ pub truthful-vouched : (f : Bench) (ks : List Verdict) → Truthful f ks → Vou
 truthful-vouched f [] t = tt
 truthful-vouched f (v ∷ ks) t = (λ e. sym (t .0) ∙ e, truthful-vouched f ks (t .1))
 
+-- runs that the test calls the same are the same
 same-list-is : (xs ys : List ℕ) → same-list xs ys ≡ true → xs ≡ ys
 same-list-is [] [] e = refl
 same-list-is [] (y ∷ ys) e = absurd (true≢false (sym e))
@@ -47,6 +48,7 @@ same-run-refl r = ap₂ _&&_ (eq-eqb (r .part) (r .part) refl) (same-list-refl (
 abbrev pub says : Bench → Run → Bool
 says f r = f (r .part) (r .changes)
 
+-- what is known of a run is what the bench says of it
 heard-bad : (f : Bench) (r : Run) (ks : List Verdict) → Truthful f ks → is-bad (heard r ks) ≡ true → says f r ≡ false
 heard-bad f r [] t e = absurd (true≢false (sym e))
 heard-bad f r (v ∷ ks) t e = go (heard-bad f r ks (t .1)) (same-run r (v .run)) refl (v .good) refl e
@@ -89,6 +91,7 @@ good-passes f ks t xs c (p ∷ ps) e =
     r : Run
     r = run-on xs (c .number) p
 
+-- the test of sharing with any of a list, by meaning
 pub shares-apart : (c : Change) (ws : List Change) → shares-any c ws ≡ false → Apart c ws
 shares-apart c [] e = tt
 shares-apart c (w ∷ ws) e = (
@@ -168,6 +171,7 @@ Rejects ks P = (L W₁ : List Change) (c : Change) (W₂ B : List Change) → Wh
 abbrev pub Holds : Triple → Passed → Type 0
 Holds P s = P (s .landed) (s .waiting) (s .rejected)
 
+-- what each decision keeps holds after the pass
 pub pass-all : (ks : List Verdict) (P : Triple) → Lands ks P → Rejects ks P →
     (L W B : List Change) → P L W B → Holds P (pass ks [] L B W)
 pass-all ks P l t L W B h =

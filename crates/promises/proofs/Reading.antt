@@ -49,6 +49,7 @@ mapped-none : (f : ℕ → Refusal) (o : Option ℕ) → mapped f o ≡ None →
 mapped-none f None e = refl
 mapped-none f (Some x) e = absurd (true≢false (ap isSome e))
 
+-- a submission that meets its checks is taken on records
 accepts-submit : (t : Config) (q : Queue) (behind xs es : List ℕ) → Says t q behind xs → kind-check 0 xs es ≡ None → accepts t q (submit (change-in (drop 1 es))) ≡ true
 unfolding decode accepts
 accepts-submit t q behind xs es s e = and-from (fresh q (c .number)) (proper c && roomy q) new (and-from (proper c) (roomy q) formed room)
@@ -158,6 +159,7 @@ kind-checked t q behind xs es s v r k p a = go k p a
         (unless-from (ltb n (getD xs running-count 0)) (NotRunning n) (ap₂ (λ (m x : ℕ). ltb m x) (sym second) (s .running-count-is) ∙ a))
         (then-from (verdicts-check xs) (requests-check xs) (unless-from (ltb (getD xs verdicts-count 0) most-verdicts) VerdictsFull (lt-ltb (getD xs verdicts-count 0) most-verdicts (omega (arith, v, s .verdicts-count-is)))) requests)
 
+-- what the checks of its kind ask besides
 parts-counted-from : (xs es : List ℕ) (k : ℕ) → kind-check k xs es ≡ None → parts-counted k es ≡ true
 parts-counted-from xs es zero e =
     let n = getD es 1 0 in
@@ -183,6 +185,7 @@ Stepped t q behind es r =
     ((is-done (r .0) ≡ true) × (accepts t q (event-in es) ≡ true) × (r .1 ≡ encode t (step t q (event-in es)) behind))
     ⊎ ((is-done (r .0) ≡ false) × (r .1 ≡ encode t q behind))
 
+-- it is stepped as on records, or nothing changes
 stepped-is : (t : Config) (q : Queue) (behind es : List ℕ) → Fits q → Stepped t q behind es (stepped (encode t q behind) es)
 unfolding stepped
 stepped-is t q behind es f = go (encode t q behind) refl (says-encode t q behind f) (refusal report-kind (encode t q behind) es) refl
@@ -203,6 +206,7 @@ Taken-if t q es = well-formed es && (accepts t q (event-in es) && ltb (q .reques
 abbrev form : List ℕ → Bool
 form es = leb event-length (length es) && (leb (getD es 0 0) report-kind && ltb (getD es 1 0) number-limit)
 
+-- what is not refused meets the test
 checked-not : (t : Config) (q : Queue) (behind xs es : List ℕ) → Says t q behind xs → refusal report-kind xs es ≡ None → Taken-if t q es ≡ true
 checked-not t q behind xs es s e =
     and-from (well-formed es) (accepts t q (event-in es) && ltb (q .requested) number-limit)
@@ -227,6 +231,7 @@ checked-not t q behind xs es s e =
     third : (depth ≡ None) × (event-check report-kind es ≡ None)
     third = then-none depth (event-check report-kind es) (second .1)
 
+-- what meets the test is not refused
 checked : (t : Config) (q : Queue) (behind xs es : List ℕ) → Says t q behind xs → benches-check (t .benches) ≡ None → depth-check (t .depth) ≡ None → queue-check xs ≡ None → length (q .verdicts) < most-verdicts →
     Taken-if t q es ≡ true → refusal report-kind xs es ≡ None
 checked t q behind xs es s b d c v e =
@@ -259,7 +264,7 @@ exactly None b xs n ys f g = sym (f refl)
 exactly (Some r) true xs n ys f g = absurd (true≢false (ap isSome (g refl)))
 exactly (Some r) false xs n ys f g = refl
 
--- THE DAY
+-- THE DAY: from any reachable queue the two days go on alike
 lent-from : (t : Config) (behind : List ℕ) → t .depth ≤ most-depth → t .benches ≤ most-benches → (ess : List (List ℕ)) (q : Queue) → Reached t q →
     All-accepted t q (taken-events (encode t q behind) ess) × (lent-day (encode t q behind) ess ≡ encode t (replayed t q (taken-events (encode t q behind) ess)) behind)
 unfolding lent-day taken-events replayed
@@ -297,6 +302,7 @@ opened-is slice b k e = go (then (length-check slice) (then (benches-check b) (d
         (refl, both .0, both .1)
     go (Some r) n h = absurd (true≢false (sym h))
 
+-- configs that are taken are small enough
 few-benches : (b : ℕ) → benches-check b ≡ None → b ≤ most-benches
 few-benches b e = leb-true b most-benches (both-right (leb 1 b) (leb b most-benches) (unless-none (leb 1 b && leb b most-benches) Benches e))
 
@@ -326,6 +332,7 @@ lent-days slice b k ess e = (
     day = subst (λ (xs : List ℕ). All-accepted t empty (taken-events xs ess) × (lent-day xs ess ≡ encode t (replayed t empty (taken-events xs ess)) behind)) (sym (start .0))
         (lent-from t behind (small-depth k (start .2)) (few-benches b (start .1)) ess empty (reached-empty t))
 
+-- so a reachable queue refuses only by the test
 pub lent-taken : Lent-taken
 unfolding stepped
 lent-taken slice b k ess e es = exactly (refusal report-kind xs es) (Taken-if t (decode xs) es) xs (length (next .running)) (encode (config-in xs) next (drop queue-length xs))

@@ -17,6 +17,7 @@ use Rattle.promises.proofs.Pass.{same-run-is, same-run-refl}
 pub same-run-sym : (r s : Run) → same-run r s ≡ true → same-run s r ≡ true
 same-run-sym r s e = subst (λ (x : Run). same-run x r ≡ true) (same-run-is r s e) (same-run-refl r)
 
+-- where a run stands in a list made of others
 pub among-head : (r : Run) (rs : List Run) → among r (r ∷ rs) ≡ true
 among-head r rs = ap (λ (b : Bool). b || among r rs) (same-run-refl r)
 
@@ -46,6 +47,7 @@ among-place x A r B = among-append x A (r ∷ B) ∙ or-swap (among x A) (same-r
 abbrev pub Sub : List Run → List Run → Type 0
 Sub xs ys = (r : Run) → among r xs ≡ true → among r ys ≡ true
 
+-- what holds of every run that stands in a list holds of each
 pub all-from : (P : Run → Type 0) (xs : List Run) → ((r : Run) → among r xs ≡ true → P r) → All P xs
 all-from P [] k = tt
 all-from P (x ∷ xs) k = (k x (among-head x xs), all-from P xs (λ r e. k r (among-right r (x ∷ []) xs e)))
@@ -61,6 +63,7 @@ among-kept test r (s ∷ rs) = go (among-kept test r rs) (same-run r s) refl (te
     go ih false k true j = ap (λ (x : Bool). x || among r (kept test rs)) k ∙ ih
     go ih false k false j = ih
 
+-- lists of different runs: a part of one, two that have none in common, and one run more
 pub different-kept : (test : Run → Bool) (rs : List Run) → Different rs → Different (kept test rs)
 different-kept test [] n = tt
 different-kept test (r ∷ rs) n = go (different-kept test rs (n .1)) (test r)
@@ -93,6 +96,7 @@ pub record Split-at (r : Run) (rs : List Run) : Type 0 where
   pub behind : List Run
   pub is : rs ≡ before ++ r ∷ behind
 
+-- a run that the test finds has such a place
 pub split-at : (r : Run) (rs : List Run) → among r rs ≡ true → Split-at r rs
 split-at r [] e = absurd (true≢false (sym e))
 split-at r (s ∷ rs) e = go (split-at r rs) (same-run r s) refl e

@@ -13,6 +13,7 @@ use Rattle.promises.proofs.Basics.{Off, line-off, has-head, has-tail}
 abbrev pub Alike : List Change → List Change → Type 0
 Alike xs ys = (p : ℕ) → line p xs ≡ line p ys
 
+-- a change passes alike on lines that are the same on its parts
 passes-on-alike : (f : Bench) (c : Change) (xs ys : List Change) (ps : List ℕ) → ((p : ℕ) → has ps p ≡ true → line p xs ≡ line p ys) → passes-on f xs c ps ≡ passes-on f ys c ps
 unfolding passes-on
 passes-on-alike f c xs ys [] e = refl
@@ -23,6 +24,7 @@ pub passes-same : (f : Bench) (c : Change) (xs ys : List Change) → ((p : ℕ) 
 unfolding passes
 passes-same f c xs ys e = passes-on-alike f c xs ys (c .parts) e
 
+-- a change that does not touch the part is not in its line
 pub line-skip : (p : ℕ) (c : Change) (xs : List Change) → has (c .parts) p ≡ false → line p (c ∷ xs) ≡ line p xs
 line-skip p c xs e = ap (λ (b : Bool). cond b (c .number ∷ line p xs) (line p xs)) e
 
@@ -35,6 +37,7 @@ pub passes-insert : (f : Bench) (d w : Change) (A X : List Change) → Loose d w
 passes-insert f d w A X o = passes-same f d (A ++ w ∷ X) (A ++ X)
     (λ p h. line-append p A (w ∷ X) ∙ ap (λ (r : List ℕ). line p A ++ r) (line-skip p w X (o p h)) ∙ sym (line-append p A X))
 
+-- lines that are the same stay so when the same change lands
 line-push : (c : Change) (xs ys : List Change) (p : ℕ) → line p xs ≡ line p ys → line p (xs ++ c ∷ []) ≡ line p (ys ++ c ∷ [])
 line-push c xs ys p e = line-append p xs (c ∷ []) ∙ ap (λ (r : List ℕ). r ++ line p (c ∷ [])) e ∙ sym (line-append p ys (c ∷ []))
 
@@ -53,6 +56,7 @@ off-swap c d o xs p = go (has (c .parts) p) refl
         line-push d (xs ++ c ∷ []) xs p (line-off p xs c h)
         ∙ sym (line-off p (xs ++ d ∷ []) c h)
 
+-- what holds of each of a list holds without one of them, and of that one
 pub all-out : (Q : Change → Type 0) (V : List Change) (c : Change) (U : List Change) → All Q (V ++ c ∷ U) → All Q (V ++ U)
 all-out Q [] c U a = a .1
 all-out Q (v ∷ V) c U a = (a .0, all-out Q V c U (a .1))

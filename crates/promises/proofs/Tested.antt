@@ -30,6 +30,7 @@ grown-push : (f : Bench) (cs pre : List Change) (c : Change) → Grown f pre cs 
 grown-push f [] pre c g e = (ap (λ (x : List Change). passes f x c) (sym (append-nil pre)) ∙ e, tt)
 grown-push f (d ∷ cs) pre c g e = (g .0, grown-push f cs (pre ++ d ∷ []) c (g .1) (ap (λ (x : List Change). passes f x c) (append-assoc pre (d ∷ []) cs) ∙ e))
 
+-- a change that passes is good on each of its parts
 passes-at : (f : Bench) (xs : List Change) (c : Change) (ps : List ℕ) → passes-on f xs c ps ≡ true → (p : ℕ) → has ps p ≡ true → f p (line p xs ++ c .number ∷ []) ≡ true
 unfolding passes-on
 passes-at f xs c [] e p h = absurd (true≢false (sym h))
@@ -39,6 +40,7 @@ passes-at f xs c (q ∷ ps) e p h = go (passes-at f xs c ps (both-right (f q (li
     go ih true k j = subst (λ (x : ℕ). f x (line x xs ++ c .number ∷ []) ≡ true) (eqb-true q p k) (both-left (f q (line q xs ++ c .number ∷ [])) (passes-on f xs c ps) e)
     go ih false k j = ih j
 
+-- so each prefix of the main line is good on the parts of its last change
 grown-at : (f : Bench) (cs pre : List Change) → Grown f pre cs → (k p : ℕ) (c : Change) → k < length cs → has (getD cs k c .parts) p ≡ true → f p (line p (pre ++ take (suc k) cs)) ≡ true
 unfolding passes
 grown-at f [] pre g k p c l h = absurd (omega arith)

@@ -33,6 +33,7 @@ pub record Proper (c : Change) : Type 0 where
   pub few : length (c .parts) ≤ most-parts
   pub once : Once (c .parts)
 
+-- a list without fault has different parts, none of them seen before
 no-fault : (seen : List ℕ) (i : ℕ) (ps : List ℕ) → isSome (fault-from seen i ps) ≡ false → Once ps × Off ps seen
 no-fault seen i [] e = (tt, λ p h. absurd (true≢false (sym h)))
 no-fault seen i (p ∷ ps) e = go (no-fault (p ∷ seen) (suc i) ps) (ltb p part-limit && not (has seen p)) refl e
@@ -48,6 +49,7 @@ no-fault seen i (p ∷ ps) e = go (no-fault (p ∷ seen) (suc i) ps) (ltb p part
     )
     go ih false k h = absurd (true≢false h)
 
+-- a submission that is taken is proper
 pub proper-is : (c : Change) → proper c ≡ true → Proper c
 proper-is c e = go (leb 1 (length (c .parts)) && leb (length (c .parts)) most-parts) refl (not-true (isSome (fault c)) e)
   where
@@ -65,6 +67,7 @@ runs-alike n xs ys [] e = refl
 runs-alike n xs ys (p ∷ ps) e =
     ap₂ (λ (w : List ℕ) (rs : List Run). record { part = p; changes = w ++ n ∷ [] } ∷ rs) (e p (has-head p ps)) (runs-alike n xs ys ps (λ q h. e q (has-tail p ps q h)))
 
+-- what is useful rests on the lines alone
 useful-alike : (n : ℕ) (ws xs ys : List Change) → Alike xs ys → useful n xs ws ≡ useful n ys ws
 unfolding useful
 useful-alike zero ws xs ys e = refl
@@ -75,6 +78,7 @@ pub length-runs-on : (xs : List Change) (n : ℕ) (ps : List ℕ) → length (ru
 length-runs-on xs n [] = refl
 length-runs-on xs n (p ∷ ps) = ap suc (length-runs-on xs n ps)
 
+-- a part of a change has a run among its runs
 pub among-runs : (L : List Change) (n : ℕ) (ps : List ℕ) (p : ℕ) → has ps p ≡ true → among (run-on L n p) (runs-on L n ps) ≡ true
 among-runs L n [] p h = absurd (true≢false (sym h))
 among-runs L n (q ∷ ps) p h = go (among-runs L n ps p) (eqb q p) refl h
@@ -132,6 +136,7 @@ last-push d (x ∷ xs) m = last-push x xs m
 abbrev pub last : Run → ℕ
 last r = last-or 0 (r .changes)
 
+-- the runs of a change end in its number, so a useful run ends in the number of one that waits
 pub runs-last : (b : List Change) (n : ℕ) (ps : List ℕ) (r : Run) → among r (runs-on b n ps) ≡ true → n ≡ last r
 runs-last b n [] r e = absurd (true≢false (sym e))
 runs-last b n (p ∷ ps) r e = go (runs-last b n ps r) (same-run r (run-on b n p)) refl e
@@ -149,6 +154,7 @@ useful-last (suc n) (c ∷ cs) b r e = elim (among-cases r (runs-on b (c .number
   | inr k ↦ ap (_||_ (eqb (c .number) (last r))) (useful-last n cs (b ++ c ∷ []) r k) ∙ or-true (eqb (c .number) (last r))
 ]
 
+-- a run of a change is on one of its parts
 runs-part : (b : List Change) (n : ℕ) (ps : List ℕ) (r : Run) → among r (runs-on b n ps) ≡ true → has ps (r .part) ≡ true
 runs-part b n [] r e = absurd (true≢false (sym e))
 runs-part b n (p ∷ ps) r e = go (runs-part b n ps r) (same-run r (run-on b n p)) refl e
@@ -162,6 +168,7 @@ pub different-runs : (b : List Change) (n : ℕ) (ps : List ℕ) → Once ps →
 different-runs b n [] d = tt
 different-runs b n (p ∷ ps) d = (not-so (among (run-on b n p) (runs-on b n ps)) (λ e. clash (runs-part b n ps (run-on b n p) e) (d .0)), different-runs b n ps (d .1))
 
+-- at most eight useful runs for each change looked at, and one for each part of those that wait
 pub useful-few : (n : ℕ) (ws xs : List Change) → All Proper ws → length (useful n xs ws) ≤ most-parts * n
 unfolding useful
 useful-few zero ws xs s = omega arith
