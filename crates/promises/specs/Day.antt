@@ -19,6 +19,7 @@ pub record Log : Type 0 where
   pub reports : List Verdict  -- the runs reported, each with what was said of it
   pub requests : List Run  -- the runs requested
 
+-- nothing written yet
 abbrev pub blank : Log
 blank = record { arrivals = []; withdrawn = 0; reports = []; requests = [] }
 
@@ -28,11 +29,13 @@ arrivals-with (submit c) cs = cs ++ c ∷ []
 arrivals-with (withdraw n) cs = dropped n cs
 arrivals-with (report i g) cs = cs
 
+-- a withdrawal is counted
 abbrev pub withdrawn-by : Event → ℕ
 withdrawn-by (submit c) = 0
 withdrawn-by (withdraw n) = 1
 withdrawn-by (report i g) = 0
 
+-- a report is of the run at its place
 abbrev pub reported-by : Queue → Event → List Verdict
 reported-by q (submit c) = []
 reported-by q (withdraw n) = []
@@ -42,6 +45,7 @@ reported-by q (report i g) = record { run = getD (q .running) i no-run; good = g
 abbrev pub new-runs : List Run → List Run → List Run
 new-runs before now = kept (λ r. not (among r before)) now
 
+-- an event that is taken is written down
 abbrev pub with-event : Config → Queue → Event → Log → Log
 with-event t q e g = record {
   arrivals = arrivals-with e (g .arrivals);
@@ -102,6 +106,7 @@ pub record Begins (landed : List Change) (most : ℕ) (r : Run) : Type 0 where
 abbrev pub measure : Config → Queue → ℕ
 measure t q = length (q .waiting) * suc (most-parts * t .depth) + (length (useful-in t q) - length (q .verdicts))
 
+-- the event submits no change
 abbrev pub Not-submit : Event → Type 0
 Not-submit (submit c) = ⊥
 Not-submit (withdraw n) = Unit {0}

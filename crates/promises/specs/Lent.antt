@@ -17,6 +17,7 @@ use Rattle.queue.specs.Entry.{config, opened, stepped}
 use Rattle.promises.specs.Day.{logged, Truthful}
 use Rattle.promises.specs.Promises.{As-serial, All-tested}
 
+-- the reply says that the event was taken
 abbrev pub is-done : Reply → Bool
 is-done (Done n) = true
 is-done (Refused r) = false
