@@ -1,1 +1,2 @@
 pub mod DayFile
+pub mod Text

@@ -1,5 +1,6 @@
 // The day file, and the line that is printed for an event.
 mod file;
+mod line;
 
 pub use file::EVENT_LENGTH;
 pub use file::config_read;

@@ -1,0 +1,32 @@
+-- The text that is printed for an event: the state's line, or the refusal. Assumes nothing: these are definitions.
+use mathlib.Core.Bool.{Bool, true, false, cond}
+use mathlib.Core.List.{List, [], _∷_, _++_}
+use Prim.Native.Nat.{ℕ}
+use lib.Chars.{codes}
+use Rattle.std.specs.Joined.{joined}
+use Rattle.std.specs.Written.{decimal}
+use Rattle.change.specs.Change.{Change}
+use Rattle.run.specs.Run.{Run}
+use Rattle.queue.specs.Queue.{Queue}
+
+-- in a list of changes: a blank, and the change's number
+abbrev pub change-text : Change → List ℕ
+change-text c = codes " " ++ decimal (c .number)
+
+-- the changes of a run, parted by a plus; `led` if others stand before them
+abbrev pub changes-text : Bool → List ℕ → List ℕ
+changes-text led [] = []
+changes-text led (n ∷ ns) = cond led (codes "+") [] ++ (decimal n ++ changes-text true ns)
+
+-- in a list of runs: a blank, the run's part, a colon, and its changes
+abbrev pub run-text : Run → List ℕ
+run-text r = codes " " ++ (decimal (r .part) ++ (codes ":" ++ changes-text false (r .changes)))
+
+-- a state: the changes that landed, wait and were rejected, the runs that run, and how many were requested
+unfoldable pub line-text : Queue → List ℕ
+line-text q =
+    codes "landed" ++ (joined change-text (q .landed)
+    ++ (codes " waits" ++ (joined change-text (q .waiting)
+    ++ (codes " back" ++ (joined change-text (q .rejected)
+    ++ (codes " out" ++ (joined run-text (q .running)
+    ++ (codes " asked " ++ decimal (q .requested)))))))))
