@@ -1,10 +1,12 @@
 -- The text that is printed for an event: the state's line, or the refusal. Assumes nothing: these are definitions.
+use mathlib.Core.Path.{_≡_}
 use mathlib.Core.Bool.{Bool, true, false, cond}
 use mathlib.Core.List.{List, [], _∷_, _++_}
 use Prim.Native.Nat.{ℕ}
 use lib.Chars.{codes}
 use Rattle.std.specs.Joined.{joined}
-use Rattle.std.specs.Written.{decimal}
+use Rattle.std.specs.Written.{Plain, Put, decimal}
+use Rattle.std.specs.declared.fmt.Formatter.{Formatter}
 use Rattle.change.specs.Change.{Change}
 use Rattle.run.specs.Run.{Run}
 use Rattle.queue.specs.Queue.{Queue}
@@ -17,6 +19,15 @@ change-text c = codes " " ++ decimal (c .number)
 abbrev pub changes-text : Bool → List ℕ → List ℕ
 changes-text led [] = []
 changes-text led (n ∷ ns) = cond led (codes "+") [] ++ (decimal n ++ changes-text true ns)
+
+-- whether there are any
+abbrev pub some : List ℕ → Bool
+some [] = false
+some (n ∷ ns) = true
+
+-- these changes were written as the first of a run, from f to g, and `led` says whether there were any
+abbrev pub Begun : {W : Type 0} → (W → List ℕ → W → Type 0) → Formatter W → List ℕ → Bool → Formatter W → Type 0
+Begun took f ns led g = (Plain f → Put took f (changes-text false ns) g) × (led ≡ some ns)
 
 -- in a list of runs: a blank, the run's part, a colon, and its changes
 abbrev pub run-text : Run → List ℕ
