@@ -8,13 +8,16 @@ use native.Mathlib.Omega.{arith}
 use native.Mathlib.Nat.{add-zero}
 use borrow.Rule.Slice.PartMut.{putMid}
 use lib.Dec.{eqb}
+use Rattle.std.specs.Options.{mapped, isSome}
+use Rattle.std.specs.declared.option.Option.{Option}
+use Rattle.std.specs.declared.option.Option.the-variants.{Some, None}
 use lib.ListN.{length, getD, take, drop, replicate, set, length-take}
 use lib.Seq.{append-snoc}
 use Rattle.std.proofs.shelf.Lists.{at-drop-more, at-drop-all, getD-take, length-take-le, set-at, take-more, append-nil, drop-all, getD-drop, drop-take, take-take, take-append-le}
-use Rattle.std.proofs.shelf.Tests.{cond-both, cases-bool}
-use Rattle.change.specs.Change.{Change, has, line, numbered}
+use Rattle.std.proofs.shelf.Tests.{cond-both, cases-bool, eq-eqb, ne-eqb}
+use Rattle.change.specs.Change.{Change, has, share, line, numbered, place-of}
 use Rattle.change.specs.Records.{change-in, change-row, change-of, changes-in, change-width, rows, fixed}
-use Rattle.change.proofs.Rows.{rest, rest-more, length-fixed, take-fixed, Local}
+use Rattle.change.proofs.Rows.{rest, rest-none, rest-more, rest-all, length-fixed, take-fixed, Local}
 
 -- one step of a search through the first n of xs
 pub has-more : (xs : List ℕ) (n i p : ℕ) → i < n → n ≤ length xs → has (drop i (take n xs)) p ≡ (eqb (getD xs i 0) p || has (drop (i + 1) (take n xs)) p)
@@ -25,6 +28,21 @@ has-more xs n i p lt le =
 
 pub has-none : (xs : List ℕ) (n i p : ℕ) → n ≤ i → has (drop i (take n xs)) p ≡ false
 has-none xs n i p le = at-drop-all (λ ys. has ys p) (take n xs) i (omega (arith, length-take n xs))
+
+module _ (xs : List ℕ) (n i : ℕ) (qs : List ℕ) (lt : i < n) (le : n ≤ length xs) where
+  share-more : share (drop i (take n xs)) qs ≡ (has qs (getD xs i 0) || share (drop (i + 1) (take n xs)) qs)
+  share-more =
+      at-drop-more (λ ys. share ys qs) (take n xs) i 0 (omega (arith, length-take-le n xs le))
+      ∙ ap (λ p. has qs p || share (drop (i + 1) (take n xs)) qs) (getD-take n xs i 0 lt)
+
+  pub share-yes : has qs (getD xs i 0) ≡ true → share (drop i (take n xs)) qs ≡ true
+  share-yes e = share-more ∙ ap (λ b. b || share (drop (i + 1) (take n xs)) qs) e
+
+  pub share-no : has qs (getD xs i 0) ≡ false → share (drop i (take n xs)) qs ≡ share (drop (i + 1) (take n xs)) qs
+  share-no e = share-more ∙ ap (λ b. b || share (drop (i + 1) (take n xs)) qs) e
+
+pub share-none : (xs : List ℕ) (n i : ℕ) (qs : List ℕ) → n ≤ i → share (drop i (take n xs)) qs ≡ false
+share-none xs n i qs le = at-drop-all (λ ys. share ys qs) (take n xs) i (omega (arith, length-take n xs))
 
 -- one more of xs in front of what is still 0
 pub pad-more : (xs : List ℕ) (i n : ℕ) → i < n → n ≤ length xs → set (take i xs ++ replicate (n - i) 0) i (getD xs i 0) ≡ take (i + 1) xs ++ replicate (n - (i + 1)) 0
@@ -74,10 +92,45 @@ change-in-local w le xs ys h =
     let t : take 10 (xs ++ ys) ≡ take 10 xs = take-append-le 10 xs ys (omega arith) in
     cc
 
-pub numbered-rest : (w : ℕ) (xs : List ℕ) (base n i p : ℕ) → i < n →
-    numbered p (rest change-in w xs base n i) ≡ (eqb (getD xs (base + w * i) 0) p || numbered p (rest change-in w xs base n (i + 1)))
-numbered-rest w xs base n i p lt =
-    ap (numbered p) (rest-more change-in w xs base n i lt) ∙ ap (λ m. eqb m p || numbered p (rest change-in w xs base n (i + 1))) (number-at xs (base + w * i))
+-- the place of a number among the records from the i-th on, counted from the first
+abbrev pub place-rest : ℕ → List ℕ → ℕ → ℕ → ℕ → Option ℕ
+place-rest p xs base n i = mapped (λ k. i + k) (place-of p (rest change-in change-width xs base n i))
+
+shifted : (i : ℕ) (r : Option ℕ) → mapped (λ k. i + k) (mapped suc r) ≡ mapped (λ k. i + 1 + k) r
+shifted i None = refl
+shifted i (Some k) = ap Some (omega arith)
+
+pub place-here : (xs : List ℕ) (base n i p : ℕ) → i < n → getD xs (base + change-width * i) 0 ≡ p → place-rest p xs base n i ≡ Some i
+place-here xs base n i p lt e =
+    ap (λ l. mapped (λ k. i + k) (place-of p l)) (rest-more change-in change-width xs base n i lt)
+    ∙ (ap (λ b. mapped (λ k. i + k) (cond b (Some 0) (mapped suc (place-of p (rest change-in change-width xs base n (i + 1)))))) (eq-eqb _ _ (number-at xs (base + change-width * i) ∙ e)) ∙ ap Some (add-zero i))
+
+pub place-later : (xs : List ℕ) (base n i p : ℕ) → i < n → (getD xs (base + change-width * i) 0 ≡ p → ⊥) → place-rest p xs base n i ≡ place-rest p xs base n (i + 1)
+place-later xs base n i p lt ne =
+    ap (λ l. mapped (λ k. i + k) (place-of p l)) (rest-more change-in change-width xs base n i lt)
+    ∙ (ap (λ b. mapped (λ k. i + k) (cond b (Some 0) (mapped suc (place-of p (rest change-in change-width xs base n (i + 1))))))
+    (ne-eqb _ _ (λ e. ne (sym (number-at xs (base + change-width * i)) ∙ e)))
+    ∙ shifted i (place-of p (rest change-in change-width xs base n (i + 1))))
+
+pub place-first : (xs : List ℕ) (base n p : ℕ) → place-rest p xs base n 0 ≡ place-of p (changes-in n (drop base xs))
+place-first xs base n p = ap (λ l. mapped (λ k. 0 + k) (place-of p l)) (rest-none change-in change-width xs base n) ∙ unmoved (place-of p (changes-in n (drop base xs)))
+  where
+    unmoved : (r : Option ℕ) → mapped (λ k. 0 + k) r ≡ r
+    unmoved None = refl
+    unmoved (Some k) = ap Some (omega arith)
+
+-- a number has a place where it is used, and nowhere else
+pub place-numbered : (p : ℕ) (cs : List Change) → isSome (place-of p cs) ≡ numbered p cs
+place-numbered p [] = refl
+place-numbered p (c ∷ cs) = go (place-numbered p cs) (eqb (c .number) p)
+  where
+    still : (r : Option ℕ) → isSome (mapped suc r) ≡ isSome r
+    still None = refl
+    still (Some k) = refl
+
+    go : isSome (place-of p cs) ≡ numbered p cs → (b : Bool) → isSome (cond b (Some 0) (mapped suc (place-of p cs))) ≡ (b || numbered p cs)
+    go ih true = refl
+    go ih false = still (place-of p cs) ∙ ih
 
 pub line-rest : (w : ℕ) (xs : List ℕ) (base n i p : ℕ) → i < n →
     line p (rest change-in w xs base n i) ≡

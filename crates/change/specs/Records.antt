@@ -1,10 +1,11 @@
 -- Records in the lent queue: how one is read and written, and a section of them. Assumes nothing: these are definitions.
+use mathlib.Core.Path.{_≡_}
 use mathlib.Core.List.{List, [], _∷_, _++_}
-use Prim.Native.Nat.{ℕ, zero, suc, _+_, _*_, _-_, _<_, min}
+use Prim.Native.Nat.{ℕ, zero, suc, _+_, _*_, _-_, _≤_, _<_, min}
 use lib.ListN.{length, getD, take, drop, replicate}
 use Rattle.std.specs.Joined.{joined}
 use Rattle.change.specs.declared.change.Change as declared
-use Rattle.change.specs.Change.{Change, most-parts, line}
+use Rattle.change.specs.Change.{Change, most-parts, part-limit, line}
 
 -- a change's record: its number, its count of parts, and room for most-parts
 abbrev pub change-width : ℕ
@@ -46,3 +47,11 @@ row-out w n i xs = take (w * i) xs ++ (take (w * (n - (i + 1))) (drop (w * (i + 
 -- a section of n numbers: a record for each element, and 0 behind them
 unfoldable pub table : {A : Type 0} → (A → List ℕ) → ℕ → List A → List ℕ
 table row n xs = joined row xs ++ replicate (n - length (joined row xs)) 0
+
+-- a change that is written and read again is the same, whatever lies behind its record
+abbrev pub Change-round-trip : Type 0
+Change-round-trip = (c : Change) (xs : List ℕ) → length (c .parts) ≤ most-parts → change-in (change-row c ++ xs) ≡ c
+
+-- a table that says of each part how many of these changes touch it
+abbrev pub Tallies : List ℕ → List Change → Type 0
+Tallies ts cs = (p : ℕ) → p < part-limit → getD ts p 0 ≡ length (line p cs)

@@ -1,7 +1,9 @@
 -- Where everything stands in the lent queue, and how much of it there may be. Assumes nothing: these are definitions.
+use mathlib.Core.List.{List, [], _∷_}
 use Prim.Native.Nat.{ℕ, _+_, _*_, _^_}
+use Rattle.change.specs.Change.{most-parts, part-limit}
 use Rattle.change.specs.Records.{change-width}
-use Rattle.run.specs.Records.{run-width, verdict-width}
+use Rattle.run.specs.Records.{run-width, verdict-width, most-following}
 
 -- how many changes can land, wait and be rejected, how many verdicts can be held, how many runs can run
 abbrev pub most-landed : ℕ
@@ -77,3 +79,11 @@ queue-length = running-at + run-width * most-running
 -- an event: its kind, and then a change's record, a number, or a place and a verdict
 abbrev pub event-length : ℕ
 event-length = 1 + change-width
+
+-- all of these, and the widths that they rest on, in the order in which the code hands them out
+abbrev pub layout-numbers : List ℕ
+layout-numbers =
+    most-parts ∷ part-limit ∷ most-following ∷ change-width ∷ verdict-width ∷ run-width ∷ event-length
+    ∷ most-landed ∷ most-waiting ∷ most-rejected ∷ most-verdicts ∷ most-running ∷ most-benches ∷ most-depth ∷ number-limit
+    ∷ benches-at ∷ depth-at ∷ landed-count ∷ waiting-count ∷ rejected-count ∷ verdicts-count ∷ running-count ∷ requested-at
+    ∷ landed-at ∷ waiting-at ∷ rejected-at ∷ verdicts-at ∷ running-at ∷ []

@@ -1,14 +1,13 @@
 // The merge queue on lent numbers: opening one, and applying an event to it.
-ghost use Rattle.queue.specs.WorkedDay.{Worked-day};
-
+mod checks;
+mod counts;
+mod laws;
+mod layout;
 mod reply;
 
+pub use laws::decode_of_encode;
+pub use laws::encode_of_decode;
+pub use laws::worked_day;
+pub use layout::numbers_of_layout;
 pub use reply::Refusal;
 pub use reply::Reply;
-
-// The definitions give the worked day.
-pub fn worked_day() -> u8
-    ensures { λ _. ⌜ Worked-day ⌝ }
-{
-    0
-}
