@@ -1,3 +1,3 @@
 pub mod Padding
-pub mod RunTexts
+pub mod Texts
 pub mod Writing

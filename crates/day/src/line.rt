@@ -11,14 +11,61 @@ ghost use Rattle.std.specs.Written.{Prints, decimal};
 ghost use Rattle.std.specs.declared.option.Option.the-variants.{Some};
 ghost use Rattle.change.specs.Change.{has, line};
 ghost use Rattle.change.specs.Records.{change-in, changes-in};
-ghost use Rattle.run.specs.Records.{run-in};
-ghost use Rattle.day.specs.Text.{change-text, changes-text, run-text, Begun};
+ghost use Rattle.run.specs.Records.{run-in, runs-in};
+ghost use Rattle.queue.specs.Numbers.{decode};
+ghost use Rattle.day.specs.Text.{change-text, changes-text, run-text, line-text, Begun};
 use change::MOST_PARTS;
 use std::fmt;
 
 const CHANGE_WIDTH: usize = 10;
 
+const RUN_WIDTH: usize = 19;
+
 const MOST_FOLLOWING: u64 = 16;
+
+const LANDED_COUNT: usize = 2;
+
+const WAITING_COUNT: usize = 3;
+
+const REJECTED_COUNT: usize = 4;
+
+const RUNNING_COUNT: usize = 6;
+
+const REQUESTED_AT: usize = 7;
+
+const LANDED_AT: usize = 8;
+
+const WAITING_AT: usize = 40_968;
+
+const REJECTED_AT: usize = 41_608;
+
+const RUNNING_AT: usize = 54_408;
+
+// What `{}` writes of a queue's numbers: its state.
+#[derive(Clone, Copy)]
+pub struct Line<'a> {
+    pub queue: &'a [u64],
+}
+
+pub impl fmt::Display for Line<'_> as LineDisplay {
+    ghost shown = { λ l. Some (line-text (decode (now (l .queue)))) };
+
+    fn fmt<W: fmt::Write>(&self, f: &mut fmt::Formatter<W>) -> fmt::Result {
+        let records = Section::of(self.queue, LANDED_COUNT, LANDED_AT);
+        let landed = Changes(records);
+        let waiting = Changes(Section::of(self.queue, WAITING_COUNT, WAITING_AT));
+        let rejected = Changes(Section::of(self.queue, REJECTED_COUNT, REJECTED_AT));
+        let running = Runs {
+            landed: records,
+            running: Section::of(self.queue, RUNNING_COUNT, RUNNING_AT),
+        };
+        let requested = number_at(self.queue, REQUESTED_AT);
+        write!(
+            f,
+            "landed{landed} waits{waiting} back{rejected} out{running} asked {requested}"
+        )
+    }
+}
 
 // The number at the index, and 0 where there is none.
 fn number_at(numbers: &[u64], i: usize) -> u64
@@ -56,6 +103,20 @@ struct Section<'a> {
     numbers: &'a [u64],
 }
 
+impl<'a> Section<'a> {
+    // The records from an index on, as many as the count at another index says.
+    fn of(queue: &'a [u64], count_at: usize, at: usize) -> Section<'a>
+        ensures count { λ r. ⌜ r .count ≡ getD (now (queue .entry)) «count_at» 0 ⌝ }
+        ensures numbers { λ r. ⌜ now (r .numbers) ≡ drop at (now (queue .entry)) ⌝ }
+    {
+        Section {
+            count: number_at(queue, count_at),
+            numbers: past(queue, at),
+        }
+    }
+}
+
+#[derive(Clone, Copy)]
 struct Changes<'a>(Section<'a>);
 
 impl fmt::Display for Changes<'_> as ChangesDisplay {
@@ -134,4 +195,46 @@ fn write_following<W: fmt::Write>(
         led = true;
     }
     Ok(())
+}
+
+#[derive(Clone, Copy)]
+struct Run<'a> {
+    landed: Section<'a>,
+    row: &'a [u64],
+}
+
+impl fmt::Display for Run<'_> as RunDisplay {
+    ghost shown = { λ r. Some (run-text (run-in (changes-in (r .landed .count) (now (r .landed .numbers))) (now (r .row)))) };
+
+    fn fmt<W: fmt::Write>(&self, f: &mut fmt::Formatter<W>) -> fmt::Result {
+        let part = number_at(self.row, 0);
+        let most = number_at(self.row, 1);
+        let following = number_at(self.row, 2).min(MOST_FOLLOWING);
+        write!(f, " {part}:")?;
+        let led = write_begun(f, self.landed, part, most)?;
+        write_following(f, led, first(past(self.row, 3), following as usize))
+    }
+}
+
+#[derive(Clone, Copy)]
+struct Runs<'a> {
+    landed: Section<'a>,
+    running: Section<'a>,
+}
+
+impl fmt::Display for Runs<'_> as RunsDisplay {
+    ghost shown = { λ r. Some (joined run-text (runs-in (changes-in (r .landed .count) (now (r .landed .numbers))) (r .running .count) (now (r .running .numbers)))) };
+
+    fn fmt<W: fmt::Write>(&self, f: &mut fmt::Formatter<W>) -> fmt::Result {
+        let mut rest = self.running.numbers;
+        for _i in 0..self.running.count {
+            let run = Run {
+                landed: self.landed,
+                row: rest,
+            };
+            write!(f, "{run}")?;
+            rest = past(rest, RUN_WIDTH);
+        }
+        Ok(())
+    }
 }

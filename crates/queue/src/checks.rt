@@ -157,7 +157,14 @@ pub fn check_sums(queue: &[u64], counts: Counts) -> Result<Counts, Refusal>
 }
 
 // Of n runs in records from `base` on, the index of the first that begins with more landed changes than its part has.
-fn first_overlong(queue: &[u64], tally: &[u64; PARTS], landed: usize, base: usize, width: usize, n: usize) -> Option<usize>
+fn first_overlong(
+    queue: &[u64],
+    tally: &[u64; PARTS],
+    landed: usize,
+    base: usize,
+    width: usize,
+    n: usize,
+) -> Option<usize>
     requires fits { ⌜ base + width * n ≤ length (now queue) ⌝ }
     requires wide { ⌜ 1 < width ⌝ }
     requires inside { ⌜ landed-at + change-width * landed ≤ length (now queue) ⌝ }
@@ -183,10 +190,24 @@ pub fn check_runs(queue: &[u64], counts: Counts) -> Result<Counts, Refusal>
     ensures hands { λ r. ⌜ Hands r (λ n. n ≡ counts) ⌝ }
 {
     let tally = change::tally_parts(queue, LANDED_AT, counts.landed);
-    if let Some(at) = first_overlong(queue, &tally, counts.landed, VERDICTS_AT, VERDICT_WIDTH, counts.verdicts) {
+    if let Some(at) = first_overlong(
+        queue,
+        &tally,
+        counts.landed,
+        VERDICTS_AT,
+        VERDICT_WIDTH,
+        counts.verdicts,
+    ) {
         return Err(Refusal::Malformed(at as u64));
     }
-    if let Some(at) = first_overlong(queue, &tally, counts.landed, RUNNING_AT, RUN_WIDTH, counts.running) {
+    if let Some(at) = first_overlong(
+        queue,
+        &tally,
+        counts.landed,
+        RUNNING_AT,
+        RUN_WIDTH,
+        counts.running,
+    ) {
         return Err(Refusal::Malformed(at as u64));
     }
     Ok(counts)
@@ -197,7 +218,11 @@ pub fn check_benches(benches: u64) -> Result<u64, Refusal>
     ensures says { λ r. ⌜ check-of r ≡ benches-check benches ⌝ }
     ensures hands { λ r. ⌜ Hands r (λ n. n ≡ benches) ⌝ }
 {
-    if benches < 1 || benches > MOST_BENCHES { Err(Refusal::Benches) } else { Ok(benches) }
+    if benches < 1 || benches > MOST_BENCHES {
+        Err(Refusal::Benches)
+    } else {
+        Ok(benches)
+    }
 }
 
 // Some of those that wait are looked at, and not too many.
@@ -205,5 +230,9 @@ pub fn check_depth(depth: u64) -> Result<u64, Refusal>
     ensures says { λ r. ⌜ check-of r ≡ depth-check depth ⌝ }
     ensures hands { λ r. ⌜ Hands r (λ n. n ≡ depth) ⌝ }
 {
-    if depth < 1 || depth > MOST_DEPTH { Err(Refusal::Depth) } else { Ok(depth) }
+    if depth < 1 || depth > MOST_DEPTH {
+        Err(Refusal::Depth)
+    } else {
+        Ok(depth)
+    }
 }

@@ -7,7 +7,7 @@ use borrow.Author.Tests.{eq-eqb, ne-eqb}
 use lib.ListN.{take, drop}
 use Rattle.std.proofs.shelf.Lists.{drop-all}
 use Rattle.change.specs.Change.{has, most-parts}
-use Rattle.day.proofs.RunTexts.{has-here}
+use Rattle.day.proofs.Texts.{has-here}
 use Rattle.day.proofs.line.touches.Needs as need
 
 pub returns-then-touched-part : need.returns-then-touched-part

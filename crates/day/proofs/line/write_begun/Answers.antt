@@ -7,7 +7,7 @@ use lib.ListN.{take}
 use Rattle.std.proofs.shelf.Lists.{take-all}
 use Rattle.change.specs.Change.{line}
 use Rattle.change.specs.Records.{changes-in}
-use Rattle.day.proofs.RunTexts.{begun-yes, begun-no, left-more, left-same, left-all, left-met}
+use Rattle.day.proofs.Texts.{begun-yes, begun-no, left-more, left-same, left-all, left-met}
 use Rattle.day.proofs.line.write_begun.Needs as need
 use Rattle.day.proofs.line.write_begun.Needs.{then-left-gt0·then-touches·in-Continue-write-change, else-left-gt0, else-left-gt0·by·then-left-gt0·else-touches, else-left-gt0·by·else-left-gt0}
 

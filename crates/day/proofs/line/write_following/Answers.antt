@@ -2,7 +2,7 @@ use mathlib.Core.Path.{refl, ap}
 use native.Mathlib.Omega.{arith}
 use Rattle.std.proofs.shelf.Lists.{drop-more, drop-all}
 use Rattle.day.specs.Text.{changes-text}
-use Rattle.day.proofs.RunTexts.{text-more}
+use Rattle.day.proofs.Texts.{text-more}
 use Rattle.day.proofs.Writing.{sofar-more, sofar-all}
 use Rattle.day.proofs.line.write_following.Needs as need
 

@@ -26,7 +26,8 @@ returns-then-queue-at c =
 
 pub loop-turn-again : need.loop-turn-again
 loop-turn-again c =
-    let t = ap (leb (getD (c .args .queue .now) (c .loop-turn .at + 1) 0)) (sym (c .count-of-held .ensures)) ∙ le-leb _ _ (c .if-queue-at .left) in
-    (sym (overlong-later (changes-in (c .args .landed) (drop landed-at (c .args .queue .now))) (c .args .width) (c .args .n) (c .loop-turn .turn) (c .loop-turn .at) (c .args .queue .now) (c .loop-turn-test .taken) t)
-     ∙ c .loop-turn .inv .0,
-     left-more (c .args .width) (c .args .n) (c .loop-turn .turn) (c .loop-turn .at) _ (c .loop-turn-test .taken) (c .loop-turn .inv .1))
+    let t = ap (leb (getD (c .args .queue .now) (c .loop-turn .at + 1) 0)) (sym (c .count-of-held .ensures)) ∙ le-leb _ _ (c .if-queue-at .left) in (
+      sym (overlong-later (changes-in (c .args .landed) (drop landed-at (c .args .queue .now))) (c .args .width) (c .args .n) (c .loop-turn .turn) (c .loop-turn .at) (c .args .queue .now) (c .loop-turn-test .taken) t)
+          ∙ c .loop-turn .inv .0,
+      left-more (c .args .width) (c .args .n) (c .loop-turn .turn) (c .loop-turn .at) _ (c .loop-turn-test .taken) (c .loop-turn .inv .1),
+    )

@@ -9,5 +9,5 @@ use Rattle.queue.proofs.checks.first_overlong.Given as given
 abbrev pub Inv-loop-turn : given.InvT-loop-turn
 Inv-loop-turn l =
     (overlong (changes-in (l .landed) (drop landed-at (l .queue))) (l .width) (l .n - l .turn) (l .at) (l .queue)
-     ≡ overlong (changes-in (l .landed) (drop landed-at (l .queue))) (l .width) (l .n) (l .base) (l .queue))
+    ≡ overlong (changes-in (l .landed) (drop landed-at (l .queue))) (l .width) (l .n) (l .base) (l .queue))
     × (l .at + l .width * (l .n - l .turn) ≡ l .base + l .width * l .n)
