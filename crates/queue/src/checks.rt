@@ -2,16 +2,20 @@
 ghost use mathlib.Core.Path.{_≡_};
 ghost use Prim.Native.Nat.{_+_, _*_, _≤_, _<_};
 ghost use lib.ListN.{length, getD, drop};
-ghost use Rattle.change.specs.Change.{part-limit};
-ghost use Rattle.change.specs.Records.{Tallies, change-of, change-in, change-width, changes-in};
-ghost use Rattle.queue.specs.Layout.{queue-length, landed-at, landed-count, event-length};
-ghost use Rattle.queue.specs.Numbers.{landed-in};
-ghost use Rattle.queue.specs.Counted.{Counted};
-ghost use Rattle.queue.specs.Refusals.{check-of, Hands, length-check, count-check, counts-check, over, records-check, sums-check, overlong, runs-check, benches-check, depth-check};
+ghost use Rattle.change.specs.Change.{place-of};
+ghost use Rattle.change.specs.Records.{Tallies, change-in, change-of, change-width, changes-in};
+ghost use Rattle.queue.specs.Counted.{Counted, kind-number};
+ghost use Rattle.queue.specs.Layout.{event-length, landed-at, most-waiting, queue-length, requested-at};
+ghost use Rattle.queue.specs.Numbers.{waiting-in};
+ghost use Rattle.queue.specs.Refusals.{Hands, benches-check, check-of, count-check, counts-check, depth-check, event-check, length-check, number-check, over, overlong, parts-check, records-check, requests-check, room-check, runs-check, sums-check, waits-check, withdraw-kind};
+ghost use Rattle.std.specs.declared.option.Option.the-variants.{Some};
+
 use super::counts::Counts;
+use super::kind::Kind;
 use super::layout::*;
 use super::reply::Refusal;
 use change::CHANGE_WIDTH;
+use change::Change;
 use change::MOST_PARTS;
 use change::PARTS;
 use run::MOST_FOLLOWING;
@@ -235,4 +239,98 @@ pub fn check_depth(depth: u64) -> Result<u64, Refusal>
     } else {
         Ok(depth)
     }
+}
+
+// The event is long enough, of a known kind, and its number is small enough.
+pub fn check_event(event: &[u64]) -> Result<Kind, Refusal>
+    ensures says { λ r. ⌜ check-of r ≡ event-check withdraw-kind (now (event .entry)) ⌝ }
+    ensures hands { λ r. ⌜ Hands r (λ k. (kind-number k ≡ getD (now (event .entry)) 0 0) × (event-length ≤ length (now (event .entry)))) ⌝ }
+{
+    if event.len() < EVENT_LENGTH {
+        return Err(Refusal::Event);
+    }
+    if event[1] >= NUMBER_LIMIT {
+        return Err(Refusal::Event);
+    }
+    match event[0] {
+        0 => Ok(Kind::Submit),
+        1 => Ok(Kind::Withdraw),
+        _ => Err(Refusal::Event),
+    }
+}
+
+// No change that landed, waits or was rejected has the number.
+pub fn check_number(queue: &[u64], counts: Counts, number: u64) -> Result<u64, Refusal>
+    requires long { ⌜ queue-length ≤ length (now queue) ⌝ }
+    requires counted { ⌜ Counted (now queue) counts ⌝ }
+    ensures says { λ r. ⌜ check-of r ≡ number-check (now (queue .entry)) number ⌝ }
+    ensures hands { λ r. ⌜ Hands r (λ n. n ≡ number) ⌝ }
+{
+    if change::number_used(queue, LANDED_AT, counts.landed, number) {
+        return Err(Refusal::NumberUsed(number));
+    }
+    if change::number_used(queue, WAITING_AT, counts.waiting, number) {
+        return Err(Refusal::NumberUsed(number));
+    }
+    if change::number_used(queue, REJECTED_AT, counts.rejected, number) {
+        return Err(Refusal::NumberUsed(number));
+    }
+    Ok(number)
+}
+
+// The change that is submitted, if it is well formed.
+pub fn check_parts(event: &[u64]) -> Result<Change, Refusal>
+    requires { ⌜ event-length ≤ length (now event) ⌝ }
+    ensures says { λ r. ⌜ check-of r ≡ parts-check (now (event .entry)) ⌝ }
+    ensures hands { λ r. ⌜ Hands r (λ c. change-of c ≡ change-in (drop 1 (now (event .entry)))) ⌝ }
+{
+    if event[2] > MOST_PARTS as u64 {
+        return Err(Refusal::Parts(MOST_PARTS as u64));
+    }
+    let c = change::change_at(event, 1);
+    if let Some(place) = c.first_fault() {
+        return Err(Refusal::Parts(place));
+    }
+    Ok(c)
+}
+
+// The place of the change of this number among those that wait.
+pub fn check_waits(queue: &[u64], counts: Counts, number: u64) -> Result<usize, Refusal>
+    requires long { ⌜ queue-length ≤ length (now queue) ⌝ }
+    requires counted { ⌜ Counted (now queue) counts ⌝ }
+    ensures says { λ r. ⌜ check-of r ≡ waits-check (now (queue .entry)) number ⌝ }
+    ensures hands { λ r. ⌜ Hands r (λ i. place-of number (waiting-in (now (queue .entry))) ≡ Some i) ⌝ }
+{
+    let Some(place) = change::find_number(queue, WAITING_AT, counts.waiting, number) else {
+        return Err(Refusal::NotWaiting(number));
+    };
+    Ok(place)
+}
+
+// One more can wait; the place where it will.
+pub fn check_room(queue: &[u64], counts: Counts) -> Result<usize, Refusal>
+    requires { ⌜ Counted (now queue) counts ⌝ }
+    ensures says { λ r. ⌜ check-of r ≡ room-check (now (queue .entry)) ⌝ }
+    ensures hands { λ r. ⌜ Hands r (λ i. (i ≡ counts .waiting) × (i < most-waiting)) ⌝ }
+{
+    if counts.waiting >= MOST_WAITING {
+        return Err(Refusal::WaitingFull);
+    }
+    if counts.landed + counts.waiting >= MOST_LANDED {
+        return Err(Refusal::LandedFull);
+    }
+    if counts.rejected + counts.waiting >= MOST_REJECTED {
+        return Err(Refusal::RejectedFull);
+    }
+    Ok(counts.waiting)
+}
+
+// How many runs were requested, if one more can be counted.
+pub fn check_requests(queue: &[u64]) -> Result<u64, Refusal>
+    requires { ⌜ queue-length ≤ length (now queue) ⌝ }
+    ensures says { λ r. ⌜ check-of r ≡ requests-check (now (queue .entry)) ⌝ }
+    ensures hands { λ r. ⌜ Hands r (λ n. n ≡ getD (now (queue .entry)) requested-at 0) ⌝ }
+{
+    let requested = queue[REQUESTED_AT];
+    if requested >= NUMBER_LIMIT { Err(Refusal::RequestsSpent) } else { Ok(requested) }
 }

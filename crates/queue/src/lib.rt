@@ -1,6 +1,7 @@
 // The merge queue on lent numbers: opening one, and applying an event to it.
 mod checks;
 mod counts;
+mod kind;
 mod laws;
 mod layout;
 mod reply;
