@@ -10,6 +10,10 @@ use Rattle.std.specs.declared.fmt.Formatter.{Formatter}
 use Rattle.change.specs.Change.{Change}
 use Rattle.run.specs.Run.{Run}
 use Rattle.queue.specs.Queue.{Queue}
+use Rattle.queue.specs.Refusals.{refusal-code}
+use Rattle.queue.specs.declared.reply.Refusal.{Refusal}
+use Rattle.queue.specs.declared.reply.Reply.{Reply}
+use Rattle.queue.specs.declared.reply.Reply.the-variants.{Done, Refused}
 
 -- in a list of changes: a blank, and the change's number
 abbrev pub change-text : Change → List ℕ
@@ -41,3 +45,12 @@ line-text q =
     ++ (codes " back" ++ (joined change-text (q .rejected)
     ++ (codes " out" ++ (joined run-text (q .running)
     ++ (codes " asked " ++ decimal (q .requested)))))))))
+
+-- a refusal: its number, and its place
+abbrev pub refusal-text : Refusal → List ℕ
+refusal-text r = codes "refused " ++ (decimal (refusal-code r .number) ++ (codes " at " ++ decimal (refusal-code r .place)))
+
+-- what is printed once an event was answered: the state, or the refusal
+abbrev pub reply-text : Reply → Queue → List ℕ
+reply-text (Done n) q = line-text q
+reply-text (Refused r) q = refusal-text r

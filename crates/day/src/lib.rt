@@ -1,9 +1,14 @@
 // The day file, and the line that is printed for an event.
 mod file;
 mod line;
+mod reply;
 
 pub use file::EVENT_LENGTH;
 pub use file::config_read;
 pub use file::next_event;
-pub use line::Line;
-pub use line::LineDisplay;
+pub use line::StateLine;
+pub use line::StateLineDisplay;
+pub use reply::RefusalLine;
+pub use reply::RefusalLineDisplay;
+pub use reply::ReplyLine;
+pub use reply::ReplyLineDisplay;

@@ -14,14 +14,11 @@ ghost use Rattle.change.specs.Records.{change-in, changes-in};
 ghost use Rattle.run.specs.Records.{run-in, runs-in};
 ghost use Rattle.queue.specs.Numbers.{decode};
 ghost use Rattle.day.specs.Text.{change-text, changes-text, run-text, line-text, Begun};
+use change::CHANGE_WIDTH;
 use change::MOST_PARTS;
+use run::MOST_FOLLOWING;
+use run::RUN_WIDTH;
 use std::fmt;
-
-const CHANGE_WIDTH: usize = 10;
-
-const RUN_WIDTH: usize = 19;
-
-const MOST_FOLLOWING: u64 = 16;
 
 const LANDED_COUNT: usize = 2;
 
@@ -43,11 +40,11 @@ const RUNNING_AT: usize = 54_408;
 
 // What `{}` writes of a queue's numbers: its state.
 #[derive(Clone, Copy)]
-pub struct Line<'a> {
+pub struct StateLine<'a> {
     pub queue: &'a [u64],
 }
 
-pub impl fmt::Display for Line<'_> as LineDisplay {
+pub impl fmt::Display for StateLine<'_> as StateLineDisplay {
     ghost shown = { λ l. Some (line-text (decode (now (l .queue)))) };
 
     fn fmt<W: fmt::Write>(&self, f: &mut fmt::Formatter<W>) -> fmt::Result {
@@ -148,7 +145,7 @@ fn touches(row: &[u64], part: u64) -> bool
 }
 
 // Writes the number of a change in a run, behind a plus if others stand before it.
-fn write_change<W: fmt::Write>(f: &mut fmt::Formatter<W>, led: bool, number: u64) -> fmt::Result
+fn write_number<W: fmt::Write>(f: &mut fmt::Formatter<W>, led: bool, number: u64) -> fmt::Result
     ensures { λ r. ⌜ Prints took (now (f .entry)) r (cond led (codes "+") [] ++ decimal number) (now (f .exit)) ⌝ }
 {
     if led {
@@ -172,7 +169,7 @@ fn write_begun<W: fmt::Write>(
     let mut rest = landed.numbers;
     for _i in 0..landed.count {
         if left > 0 && touches(rest, part) {
-            write_change(f, led, number_at(rest, 0))?;
+            write_number(f, led, number_at(rest, 0))?;
             led = true;
             left -= 1;
         }
@@ -191,7 +188,7 @@ fn write_following<W: fmt::Write>(
 {
     let mut led = led;
     for number in numbers {
-        write_change(f, led, *number)?;
+        write_number(f, led, *number)?;
         led = true;
     }
     Ok(())
@@ -209,7 +206,7 @@ impl fmt::Display for Run<'_> as RunDisplay {
     fn fmt<W: fmt::Write>(&self, f: &mut fmt::Formatter<W>) -> fmt::Result {
         let part = number_at(self.row, 0);
         let most = number_at(self.row, 1);
-        let following = number_at(self.row, 2).min(MOST_FOLLOWING);
+        let following = number_at(self.row, 2).min(MOST_FOLLOWING as u64);
         write!(f, " {part}:")?;
         let led = write_begun(f, self.landed, part, most)?;
         write_following(f, led, first(past(self.row, 3), following as usize))

@@ -9,7 +9,6 @@ ghost use Rattle.queue.specs.Layout.{event-length, landed-at, most-waiting, qu
 ghost use Rattle.queue.specs.Numbers.{waiting-in};
 ghost use Rattle.queue.specs.Refusals.{Hands, benches-check, check-of, count-check, counts-check, depth-check, event-check, length-check, number-check, over, overlong, parts-check, records-check, requests-check, room-check, runs-check, sums-check, waits-check, withdraw-kind};
 ghost use Rattle.std.specs.declared.option.Option.the-variants.{Some};
-
 use super::counts::Counts;
 use super::kind::Kind;
 use super::layout::*;
@@ -332,5 +331,9 @@ pub fn check_requests(queue: &[u64]) -> Result<u64, Refusal>
     ensures hands { λ r. ⌜ Hands r (λ n. n ≡ getD (now (queue .entry)) requested-at 0) ⌝ }
 {
     let requested = queue[REQUESTED_AT];
-    if requested >= NUMBER_LIMIT { Err(Refusal::RequestsSpent) } else { Ok(requested) }
+    if requested >= NUMBER_LIMIT {
+        Err(Refusal::RequestsSpent)
+    } else {
+        Ok(requested)
+    }
 }

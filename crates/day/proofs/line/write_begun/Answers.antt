@@ -9,7 +9,7 @@ use Rattle.change.specs.Change.{line}
 use Rattle.change.specs.Records.{changes-in}
 use Rattle.day.proofs.Texts.{begun-yes, begun-no, left-more, left-same, left-all, left-met}
 use Rattle.day.proofs.line.write_begun.Needs as need
-use Rattle.day.proofs.line.write_begun.Needs.{then-left-gt0·then-touches·in-Continue-write-change, else-left-gt0, else-left-gt0·by·then-left-gt0·else-touches, else-left-gt0·by·else-left-gt0}
+use Rattle.day.proofs.line.write_begun.Needs.{then-left-gt0·then-touches·in-Continue-write-number, else-left-gt0, else-left-gt0·by·then-left-gt0·else-touches, else-left-gt0·by·else-left-gt0}
 
 pub loop-i-again : need.loop-i-again
 loop-i-again g c =
@@ -26,11 +26,11 @@ loop-i-again g c =
     let ns : ℕ → List ℕ = λ k. take k (line p (changes-in (n - (i + 1)) ys)) in
     let were : ℕ → List ℕ = λ k. take k (line p (changes-in (n - i) xs)) in
     elim (c .if-left-gt0 .came) [
-      | then-left-gt0·then-touches·in-Continue-write-change w ↦
+      | then-left-gt0·then-touches·in-Continue-write-number w ↦
           left-met took _ _ ns true _ (left - 1) _ _ _ (w .led-is) (w .left-is) (w .f-is)
           (left-more took _ _ led _ _ _ _ _ (c .loop-i .inv)
           (begun-yes p n i xs ys lt behind left (w .number-at .result) (w .if-left-gt0 .taken) (w .number-at .ensures) (sym (w .if-touches .ensures tt)))
-          (λ plain. w .in-Continue-write-change .ensures tt plain refl))
+          (λ plain. w .in-Continue-write-number .ensures tt plain refl))
       | else-left-gt0 w ↦
           left-met took _ _ ns led _ left _ (c .loop-i .f) _ (w .led-is) (w .left-is) (w .f-is)
           (left-same took _ _ led _ _ _ (c .loop-i .inv)

@@ -1,6 +1,6 @@
 use Rattle.std.proofs.Writes.{put-is}
 use Rattle.day.proofs.Texts.{line-is}
-use Rattle.day.proofs.line.LineDisplay.fmt.Needs as need
+use Rattle.day.proofs.line.StateLineDisplay.fmt.Needs as need
 
 pub returns : need.returns
 returns g c = λ plain ok.
