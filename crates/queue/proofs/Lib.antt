@@ -1,3 +1,6 @@
 pub mod Sections
 pub mod Round
 pub mod Searches
+pub mod Recorded
+pub mod Replies
+pub mod Opened

@@ -1,14 +1,17 @@
 -- What the entry answers, and what the lent numbers are afterwards. Assumes nothing: these are definitions.
+use mathlib.Core.Path.{_≡_}
 use mathlib.Core.List.{List, [], _∷_, _++_}
 use Prim.Native.Nat.{ℕ, zero, suc, _+_, _-_}
 use lib.ListN.{length, getD, take, drop}
 use Rattle.std.specs.declared.option.Option.{Option}
 use Rattle.std.specs.declared.option.Option.the-variants.{Some, None}
+use Rattle.std.specs.declared.result.Result.{Result}
+use Rattle.std.specs.declared.result.Result.the-variants.{Ok, Err}
 use Rattle.change.specs.Change.{Change, dropped}
 use Rattle.queue.specs.Layout.{most-landed, most-waiting, most-rejected, benches-at, depth-at, landed-count, rejected-count, verdicts-count, running-count, requested-at, queue-length}
 use Rattle.queue.specs.Queue.{Config, Queue, Event, submit, withdraw, report, empty, join, step}
-use Rattle.queue.specs.Numbers.{Sections, sections, whole, config-in, landed-in, waiting-in, rejected-in, changes-section, decode, encode, event-in}
-use Rattle.queue.specs.Refusals.{Check, then, length-check, benches-check, depth-check, refusal, report-kind, withdraw-kind}
+use Rattle.queue.specs.Numbers.{Sections, sections, whole, config-in, landed-in, waiting-in, rejected-in, changes-section, decode, encode, event-by, event-in}
+use Rattle.queue.specs.Refusals.{Check, then, length-check, benches-check, depth-check, front-check, kind-check, refusal, report-kind, withdraw-kind}
 use Rattle.queue.specs.declared.reply.Refusal.{Refusal}
 use Rattle.queue.specs.declared.reply.Reply.{Reply}
 use Rattle.queue.specs.declared.reply.Reply.the-variants.{Done, Refused}
@@ -17,6 +20,11 @@ use Rattle.queue.specs.declared.reply.Reply.the-variants.{Done, Refused}
 abbrev pub unless-refused : Check → List ℕ → Reply × List ℕ → Reply × List ℕ
 unless-refused None xs taken = taken
 unless-refused (Some r) xs taken = (Refused r, xs)
+
+-- the reply to a check's refusal
+abbrev pub Replies : {A : Type 0} → Result A Refusal → Reply → Type 0
+Replies (Ok x) q = q ≡ Done 0
+Replies (Err r) q = q ≡ Refused r
 
 -- opening writes an empty queue of the config
 abbrev pub config : ℕ → ℕ → Config
@@ -52,8 +60,12 @@ recorded-sections xs ws = record {
   behind = sections xs .behind;
 }
 
+-- an event of this kind that is taken
+abbrev pub recorded-kind : ℕ → List ℕ → List ℕ → Reply × List ℕ
+recorded-kind k xs es =
+    unless-refused (kind-check k xs es) xs
+    (Done (getD xs running-count 0), whole (recorded-sections xs (waiting-after (event-by k (drop 1 es)) (waiting-in xs))))
+
 -- what the entry does so far: the first part of the step, for submissions and withdrawals; a report is of no known kind
-unfoldable pub recorded-by : List ℕ → List ℕ → Reply × List ℕ
-recorded-by xs es =
-    unless-refused (refusal withdraw-kind xs es) xs
-    (Done (getD xs running-count 0), whole (recorded-sections xs (waiting-after (event-in es) (waiting-in xs))))
+abbrev pub recorded-by : List ℕ → List ℕ → Reply × List ℕ
+recorded-by xs es = unless-refused (front-check withdraw-kind xs es) xs (recorded-kind (getD es 0 0) xs es)

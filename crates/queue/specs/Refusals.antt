@@ -163,9 +163,11 @@ withdraw-kind = 1
 abbrev pub report-kind : ℕ
 report-kind = 2
 
--- the first refusal that applies, where kinds of event up to the last are known
+-- what every event must meet, where kinds of event up to the last are known: the queue, its config, the event's form
+abbrev pub front-check : ℕ → List ℕ → List ℕ → Check
+front-check last xs es =
+    then (queue-check xs) (then (benches-check (getD xs benches-at 0)) (then (depth-check (getD xs depth-at 0)) (event-check last es)))
+
+-- the first refusal that applies
 abbrev pub refusal : ℕ → List ℕ → List ℕ → Check
-refusal last xs es =
-    then (queue-check xs)
-    (then (benches-check (getD xs benches-at 0))
-    (then (depth-check (getD xs depth-at 0)) (then (event-check last es) (kind-check (getD es 0 0) xs es))))
+refusal last xs es = then (front-check last xs es) (kind-check (getD es 0 0) xs es)
