@@ -52,7 +52,7 @@ of-kind (suc (suc (suc k))) bs = None
 abbrev pub next-event : List ℕ → Taken
 next-event bs = of-kind (getD bs 0 0) bs
 
--- the events of a day, up to the first that ends early or is of no known kind; each takes a byte at least, so that there are at most n of them
+-- one event behind the other, up to the first that ends early or is of no known kind; at most n of them
 abbrev pub followed : Taken → (ℕ → List (List ℕ)) → List (List ℕ)
 followed None rest = []
 followed (Some t) rest = t .1 ∷ rest (t .0)
@@ -61,5 +61,10 @@ unfoldable pub events-from : ℕ → List ℕ → List (List ℕ)
 events-from zero bs = []
 events-from (suc n) bs = followed (next-event bs) (λ k. events-from n (drop k bs))
 
+-- all of them: each takes a byte at least, so there are no more than bytes
+abbrev pub events-of : List ℕ → List (List ℕ)
+events-of bs = events-from (length bs) bs
+
+-- the events of a day
 abbrev pub events-in : List ℕ → List (List ℕ)
-events-in bs = events-from (length bs) (drop config-bytes bs)
+events-in bs = events-of (drop config-bytes bs)

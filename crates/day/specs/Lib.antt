@@ -1,2 +1,3 @@
+pub mod Day
 pub mod DayFile
 pub mod Text

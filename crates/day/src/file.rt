@@ -6,11 +6,9 @@ ghost use Rattle.change.specs.Change.{most-parts};
 ghost use Rattle.change.specs.Records.{fixed};
 ghost use Rattle.day.specs.DayFile.{config-read, next-event, number-read, submission, withdrawal, report};
 use change::MOST_PARTS;
+use queue::EVENT_LENGTH;
 
-// An event as the queue takes it: its kind, and ten numbers.
-pub const EVENT_LENGTH: usize = 11;
-
-const CONFIG_BYTES: usize = 2;
+pub const CONFIG_BYTES: usize = 2;
 
 const SUBMIT_BYTES: usize = 6;
 

@@ -1,13 +1,15 @@
 // The day file, and the line that is printed for an event.
 mod file;
 mod line;
+mod playing;
 mod reply;
+mod slices;
 
-pub use file::EVENT_LENGTH;
 pub use file::config_read;
 pub use file::next_event;
 pub use line::StateLine;
 pub use line::StateLineDisplay;
+pub use playing::play;
 pub use reply::RefusalLine;
 pub use reply::RefusalLineDisplay;
 pub use reply::ReplyLine;

@@ -14,29 +14,23 @@ ghost use Rattle.change.specs.Records.{change-in, changes-in};
 ghost use Rattle.run.specs.Records.{run-in, runs-in};
 ghost use Rattle.queue.specs.Numbers.{decode};
 ghost use Rattle.day.specs.Text.{change-text, changes-text, run-text, line-text, Begun};
+use super::slices::first;
+use super::slices::number_at;
+use super::slices::past;
 use change::CHANGE_WIDTH;
 use change::MOST_PARTS;
+use queue::LANDED_AT;
+use queue::LANDED_COUNT;
+use queue::REJECTED_AT;
+use queue::REJECTED_COUNT;
+use queue::REQUESTED_AT;
+use queue::RUNNING_AT;
+use queue::RUNNING_COUNT;
+use queue::WAITING_AT;
+use queue::WAITING_COUNT;
 use run::MOST_FOLLOWING;
 use run::RUN_WIDTH;
 use std::fmt;
-
-const LANDED_COUNT: usize = 2;
-
-const WAITING_COUNT: usize = 3;
-
-const REJECTED_COUNT: usize = 4;
-
-const RUNNING_COUNT: usize = 6;
-
-const REQUESTED_AT: usize = 7;
-
-const LANDED_AT: usize = 8;
-
-const WAITING_AT: usize = 40_968;
-
-const REJECTED_AT: usize = 41_608;
-
-const RUNNING_AT: usize = 54_408;
 
 // What `{}` writes of a queue's numbers: its state.
 #[derive(Clone, Copy)]
@@ -61,35 +55,6 @@ pub impl fmt::Display for StateLine<'_> as StateLineDisplay {
             f,
             "landed{landed} waits{waiting} back{rejected} out{running} asked {requested}"
         )
-    }
-}
-
-// The number at the index, and 0 where there is none.
-fn number_at(numbers: &[u64], i: usize) -> u64
-    ensures { λ r. ⌜ r ≡ getD (now (numbers .entry)) i 0 ⌝ }
-{
-    if i < numbers.len() { numbers[i] } else { 0 }
-}
-
-// What lies behind the first n numbers.
-fn past(numbers: &[u64], n: usize) -> &[u64]
-    ensures { λ r. ⌜ now r ≡ drop n (now (numbers .entry)) ⌝ }
-{
-    if n < numbers.len() {
-        &numbers[n..]
-    } else {
-        &[]
-    }
-}
-
-// The first n numbers, or all where there are fewer.
-fn first(numbers: &[u64], n: usize) -> &[u64]
-    ensures { λ r. ⌜ now r ≡ take n (now (numbers .entry)) ⌝ }
-{
-    if n < numbers.len() {
-        &numbers[0..n]
-    } else {
-        numbers
     }
 }
 
