@@ -1,3 +1,4 @@
 pub mod Day
 pub mod DayFile
 pub mod Text
+pub mod WorkedDay

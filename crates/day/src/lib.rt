@@ -4,6 +4,7 @@ mod line;
 mod playing;
 mod reply;
 mod slices;
+mod worked;
 
 pub use file::config_read;
 pub use file::next_event;
@@ -14,3 +15,5 @@ pub use reply::RefusalLine;
 pub use reply::RefusalLineDisplay;
 pub use reply::ReplyLine;
 pub use reply::ReplyLineDisplay;
+pub use worked::worked_file;
+pub use worked::worked_lines;
