@@ -7,7 +7,7 @@ use lib.ListN.{length, getD}
 use Rattle.std.specs.Options.{isSome}
 use Rattle.change.specs.Change.{Change, numbered, dropped, without, fault}
 use Rattle.run.specs.Run.{Run, Verdict}
-pub use Rattle.run.specs.State.{Config, Queue, empty}
+use Rattle.run.specs.State.{Config, Queue}
 use Rattle.decide.specs.Decide.{Passed, pass}
 use Rattle.plan.specs.Plan.{useful, still-running, still-known, request}
 use Rattle.run.specs.Layout.{most-landed, most-waiting, most-rejected}
