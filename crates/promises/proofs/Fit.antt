@@ -14,10 +14,10 @@ use Rattle.std.proofs.shelf.Lists.{nil-from-length, length-push, length-map}
 use Rattle.change.specs.Change.{most-parts, Change, dropped}
 use Rattle.run.specs.Run.{Run, Verdict}
 use Rattle.run.specs.Records.{Ahead}
-use Rattle.plan.specs.Plan.{useful, among}
+use Rattle.plan.specs.Plan.{useful, among, useful-in, planned}
 use Rattle.run.specs.Layout.{most-landed, most-waiting, most-rejected, most-verdicts, most-benches, most-depth}
 use Rattle.run.specs.State.{Config, Queue, empty}
-use Rattle.queue.specs.Queue.{Event, submit, withdraw, report, fresh, proper, roomy, accepts, recorded, decided, useful-in, planned, step, replayed}
+use Rattle.queue.specs.Queue.{Event, submit, withdraw, report, fresh, proper, roomy, accepts, recorded, decided, step, replayed}
 use Rattle.run.specs.Numbers.{Fits}
 use Rattle.promises.specs.Day.{held, Begins}
 use Rattle.promises.specs.Promises.{Verdicts-fit}

@@ -13,9 +13,9 @@ use Rattle.run.specs.declared.known.Known.the-variants.{Nothing, Good, Bad}
 use Rattle.change.specs.Change.{Change, has, share}
 use Rattle.run.specs.Run.{Run, Verdict, same-run, heard, is-good, is-bad, is-unknown, run-on, runs-on}
 use Rattle.decide.specs.Decide.{any-bad, all-good, shares-any, pass}
-use Rattle.plan.specs.Plan.{useful, among, still-running, still-known}
+use Rattle.plan.specs.Plan.{useful, among, still-running, still-known, useful-in, planned}
 use Rattle.run.specs.State.{Config, Queue, empty}
-use Rattle.queue.specs.Queue.{Event, recorded, decided, useful-in, planned, step, replayed}
+use Rattle.queue.specs.Queue.{Event, recorded, decided, step, replayed}
 use Rattle.queue.specs.WorkedDay.{run}
 use Rattle.promises.specs.Day.{held}
 use Rattle.promises.specs.Promises.{Never-idle, Fully-booked, Decided-when-known}

@@ -8,9 +8,9 @@ use Rattle.std.specs.shelf.Lists.{All}
 use Rattle.change.specs.Change.{most-parts, Change, line, numbered, dropped}
 use Rattle.run.specs.Run.{Run, Verdict, same-run}
 use Rattle.serial.specs.Serial.{Bench}
-use Rattle.plan.specs.Plan.{among, kept}
+use Rattle.plan.specs.Plan.{among, kept, useful-in}
 use Rattle.run.specs.State.{Config, Queue, empty}
-use Rattle.queue.specs.Queue.{Event, submit, withdraw, report, accepts, no-run, useful-in, step, after}
+use Rattle.queue.specs.Queue.{Event, submit, withdraw, report, accepts, no-run, step, after}
 use Rattle.queue.specs.WorkedDay.{run}
 
 -- what a witness writes down of the events that are taken

@@ -10,10 +10,10 @@ use Rattle.change.specs.Change.{most-parts, Change, has, line}
 use Rattle.run.specs.Run.{Verdict, heard, run-on, runs-on}
 use Rattle.serial.specs.Serial.{Bench, serial-landed, serial-rejected}
 use Rattle.decide.specs.Decide.{any-bad, shares-any}
-use Rattle.plan.specs.Plan.{among}
+use Rattle.plan.specs.Plan.{among, useful-in}
 use Rattle.run.specs.Layout.{most-landed, most-waiting, most-rejected, most-verdicts, most-benches, most-depth}
 use Rattle.run.specs.State.{Config, Queue, empty}
-use Rattle.queue.specs.Queue.{Event, accepts, useful-in, after, replayed}
+use Rattle.queue.specs.Queue.{Event, accepts, after, replayed}
 use Rattle.run.specs.Numbers.{Fits}
 use Rattle.promises.specs.Day.{Log, logged, Truthful, said-good, not-waiting, Same-decisions, held, Different, parts-in, Begins, measure, Not-submit, All-taken}
 
