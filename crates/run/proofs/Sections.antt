@@ -130,7 +130,7 @@ pub get-counter : (xs : List ℕ) (k : ℕ) → k < landed-at → getD (sections
 get-counter xs k lt = getD-take landed-at xs k 0 lt
 
 -- what stands from a section on is the section and what stands behind it
-cut : (a n b : ℕ) (xs : List ℕ) → b ≡ a + n → take n (drop a xs) ++ drop b xs ≡ drop a xs
+pub cut : (a n b : ℕ) (xs : List ℕ) → b ≡ a + n → take n (drop a xs) ++ drop b xs ≡ drop a xs
 cut a n b xs e = ap (λ l. take n (drop a xs) ++ l) (ap (λ u. drop u xs) e ∙ sym (drop-drop n a xs)) ∙ take-append-drop n (drop a xs)
 
 -- a slice cut into sections is these sections joined
