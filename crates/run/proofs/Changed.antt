@@ -19,7 +19,7 @@ use Rattle.run.specs.Records.{run-in, verdict-in, verdicts-in, run-width, verd
 use Rattle.run.specs.Limits.{most-following}
 use Rattle.run.specs.Layout.{most-landed, most-waiting, most-rejected, most-verdicts, most-running, benches-at, depth-at, landed-count, waiting-count, rejected-count, verdicts-count, running-count, requested-at, landed-at, waiting-at, rejected-at, verdicts-at, running-at, queue-length}
 use Rattle.run.specs.Numbers.{Sections, sections, whole, landed-in, waiting-in, rejected-in, with-changes, changes-section, Begins, Settled, Small}
-use Rattle.run.proofs.Sections.{Sized, put-landed, put-waiting, put-rejected, sized-sections, sections-whole, whole-sections, cut}
+use Rattle.run.proofs.Sections.{Sized, put-landed, put-waiting, put-rejected, sized-sections, sections-whole, long-whole, cut}
 use Rattle.run.proofs.Round.{change-records, read-section}
 
 -- a section of changes is as long as it should be
@@ -118,17 +118,8 @@ module _ (xs : List ℕ) (L W R : List Change) (long : queue-length ≤ length x
     verdicts-stay =
         sym (cut verdicts-at (verdict-width * most-verdicts) running-at ys refl) ∙ ((λ i. sections-are i .verdicts ++ running-stays i) ∙ cut verdicts-at (verdict-width * most-verdicts) running-at xs refl)
 
-    -- a longer list is still long enough
     pub long-changed : queue-length ≤ length ys
-    long-changed =
-        let z = sized-changes in
-        let s : Sections = with-changes xs L W R in
-        let r₅ : List ℕ = s .running ++ s .behind in
-        let r₄ : List ℕ = s .verdicts ++ r₅ in
-        let r₃ : List ℕ = s .rejected ++ r₄ in
-        let r₂ : List ℕ = s .waiting ++ r₃ in
-        let r₁ : List ℕ = s .landed ++ r₂ in
-        omega (arith, ap length is, length-append (s .counters) r₁, length-append (s .landed) r₂, length-append (s .waiting) r₃, length-append (s .rejected) r₄, length-append (s .verdicts) r₅, length-append (s .running) (s .behind), z .counters, z .landed, z .waiting, z .rejected, z .verdicts, z .running)
+    long-changed = subst (λ (l : List ℕ). queue-length ≤ length l) (sym is) (long-whole (with-changes xs L W R) sized-changes)
 
 -- a run that fits what has landed fits, and says the same, when more has landed
 pub begins-more : (cs ds : List Change) (xs : List ℕ) → Begins cs xs → Begins (cs ++ ds) xs
