@@ -77,6 +77,15 @@ rows-split f w n i xs lt =
     let d : drop w (drop (w * i) xs) ≡ drop (w * (i + 1)) xs = drop-drop w (w * i) xs ∙ ap (λ u. drop u xs) (omega (arith, mul-add w i 1)) in
     ap (λ u. rows f w u xs) k ∙ (rows-append f w i (suc (n - (i + 1))) xs ∙ rw d)
 
+-- two ways to read that agree on each of n records read the same
+pub rows-same : {A : Type 0} (f g : List ℕ → A) (w n : ℕ) (xs : List ℕ) → ((k : ℕ) → k < n → f (drop (w * k) xs) ≡ g (drop (w * k) xs)) → rows f w n xs ≡ rows g w n xs
+rows-same f g w zero xs same = refl
+rows-same f g w (suc n) xs same =
+    let first : f xs ≡ g xs = ap (λ u. f (drop u xs)) (sym (mul-zero w)) ∙ (same 0 (omega arith) ∙ ap (λ u. g (drop u xs)) (mul-zero w)) in
+    let next : (k : ℕ) → drop (w * k) (drop w xs) ≡ drop (w * suc k) xs = λ k. drop-drop (w * k) w xs ∙ ap (λ u. drop u xs) (omega (arith, mul-suc w k)) in
+    let rest = rows-same f g w n (drop w xs) (λ k lt. ap f (next k) ∙ (same (suc k) (omega arith) ∙ ap g (sym (next k)))) in
+    λ i. first i ∷ rest i
+
 -- record i of n ends before all do
 pub record-inside : (w n i : ℕ) → i < n → w * i + w ≤ w * n
 record-inside w n i lt =

@@ -11,7 +11,9 @@ use lib.ListN.{length, getD, take, drop, set, length-append, length-drop}
 use Rattle.std.specs.Options.{mapped}
 use Rattle.std.specs.declared.option.Option.{Option}
 use Rattle.std.specs.declared.option.Option.the-variants.{Some, None}
-use Rattle.std.proofs.shelf.Lists.{length-take-le, length-push}
+use Rattle.std.proofs.shelf.Lists.{length-take-le, length-push, append-nil}
+use Rattle.std.proofs.shelf.Elements.{all-append, all-push, all-take, all-drop}
+use Rattle.std.specs.shelf.Lists.{All}
 use Rattle.std.proofs.shelf.Counted.{fill-by-all}
 use Rattle.change.specs.Change.{Change, place-of, dropped}
 use Rattle.change.specs.Records.{change-in, change-row, change-width, changes-in, table, written, row-out}
@@ -19,16 +21,14 @@ use Rattle.change.proofs.Rows.{length-rows}
 use Rattle.change.proofs.Changes.{length-change-row}
 use Rattle.change.proofs.Tables.{length-table, table-push, table-out}
 use Rattle.run.specs.Layout.{most-landed, most-waiting, most-rejected, benches-at, depth-at, landed-count, waiting-count, rejected-count, verdicts-count, running-count, requested-at, landed-at, waiting-at, rejected-at, queue-length}
-use Rattle.run.specs.Numbers.{Sections, sections, whole, landed-in, waiting-in, rejected-in, changes-section}
-use Rattle.queue.specs.Counted.{Counted}
-use Rattle.queue.specs.Entry.{recorded-sections}
+use Rattle.run.specs.Numbers.{Sections, sections, whole, landed-in, waiting-in, rejected-in, changes-section, with-changes, decode, Runs-fit, Settled, Small}
+use Rattle.run.specs.State.{Queue}
+use Rattle.queue.specs.Queue.{with-waiting}
+use Rattle.queue.specs.Stages.{Roomy, Sound, Says}
 use Rattle.queue.specs.declared.counts.Counts.{Counts}
-use Rattle.run.proofs.Sections.{Sized, counters-as, landed-as, waiting-as, rejected-as, put-landed, put-waiting, put-rejected, set-counter, get-counter, whole-sections, sized-sections, sections-whole}
+use Rattle.run.proofs.Sections.{Sized, landed-as, waiting-as, rejected-as, put-landed, put-waiting, put-rejected, get-counter, whole-sections, sized-sections, sections-whole}
+use Rattle.run.proofs.Changed.{section-long, count-landed, count-waiting, count-rejected, small-changes, Fitting, runs-settled, settled-changed, decode-changed, waiting-written, config-changed, behind-changed}
 use Rattle.run.proofs.Round.{change-records, rows-section}
-
--- a section of changes is as long as it should be
-pub section-long : (most : ℕ) (cs : List Change) → length cs ≤ most → length (changes-section most cs) ≡ change-width * most
-section-long most cs few = length-table change-row change-width length-change-row (change-width * most) cs (omega arith)
 
 -- a section that was written anew is what is written of what the queue says there
 pub section-anew : (at most n k : ℕ) (xs part ys : List ℕ) → at + change-width * most ≤ length xs → part ≡ take (change-width * most) (drop at xs) → n ≡ k → n ≤ most →
@@ -38,16 +38,6 @@ section-anew at most n k xs part ys long is e few h =
     let l : length part ≡ change-width * most = ap length is ∙ length-take-le (change-width * most) (drop at xs) enough in
     let r : changes-in n part ≡ changes-in k (drop at xs) = ap (changes-in n) is ∙ (rows-section change-records n (change-width * most) (drop at xs) (omega arith) enough ∙ ap (λ u. changes-in u (drop at xs)) e) in
     h ∙ (λ i. table change-row (l i) (r i))
-
--- as many changes are read as the counts say
-count-landed : (xs : List ℕ) → length (landed-in xs) ≡ getD xs landed-count 0
-count-landed xs = length-rows change-in change-width (getD xs landed-count 0) (drop landed-at xs)
-
-count-waiting : (xs : List ℕ) → length (waiting-in xs) ≡ getD xs waiting-count 0
-count-waiting xs = length-rows change-in change-width (getD xs waiting-count 0) (drop waiting-at xs)
-
-count-rejected : (xs : List ℕ) → length (rejected-in xs) ≡ getD xs rejected-count 0
-count-rejected xs = length-rows change-in change-width (getD xs rejected-count 0) (drop rejected-at xs)
 
 -- the counters, one by one
 counters-are : (xs : List ℕ) → queue-length ≤ length xs →
@@ -74,7 +64,7 @@ pub tidied : (xs ls ws rs : List ℕ) (n m k : ℕ) → queue-length ≤ length 
     ls ≡ table change-row (length (sections xs .landed)) (changes-in n (sections xs .landed)) →
     ws ≡ table change-row (length (sections x₁ .waiting)) (changes-in m (sections x₁ .waiting)) →
     rs ≡ table change-row (length (sections x₂ .rejected)) (changes-in k (sections x₂ .rejected)) →
-    putMid rejected-at (change-width * most-rejected) x₂ rs ≡ whole (recorded-sections xs (waiting-in xs))
+    putMid rejected-at (change-width * most-rejected) x₂ rs ≡ whole (with-changes xs (landed-in xs) (waiting-in xs) (rejected-in xs))
 tidied xs ls ws rs n m k long ln lm lk fn fm fk hl hw hr =
     let s₀ : Sections = sections xs in
     let z₀ : Sized s₀ = sized-sections xs long in
@@ -89,54 +79,58 @@ tidied xs ls ws rs n m k long ln lm lk fn fm fk hl hw hr =
     let z₂ : Sized s₂ = sized-waiting s₁ ws z₁ (ap length ew ∙ section-long most-waiting (waiting-in xs) (omega (arith, count-waiting xs))) in
     let e₂ : x₂ ≡ whole s₂ = ap (λ l. putMid waiting-at (change-width * most-waiting) l ws) e₁ ∙ put-waiting s₁ ws z₁ in
     let er : rs ≡ changes-section most-rejected (rejected-in xs) = section-anew rejected-at most-rejected k (getD xs rejected-count 0) xs (sections x₂ .rejected) rs (omega arith) (rejected-part x₂ s₂ z₂ e₂) lk fk hr in
-    let counters : s₀ .counters ≡ recorded-sections xs (waiting-in xs) .counters =
+    let counters : s₀ .counters ≡ with-changes xs (landed-in xs) (waiting-in xs) (rejected-in xs) .counters =
     counters-are xs long ∙ (λ i. getD xs benches-at 0 ∷ getD xs depth-at 0 ∷ sym (count-landed xs) i ∷ sym (count-waiting xs) i ∷ sym (count-rejected xs) i ∷ getD xs verdicts-count 0 ∷ getD xs running-count 0 ∷ getD xs requested-at 0 ∷ []) in
     ap (λ l. putMid rejected-at (change-width * most-rejected) l rs) e₂
     ∙ (put-rejected s₂ rs z₂
     ∙ (λ i. whole (record { counters = counters i; landed = el i; waiting = ew i; rejected = er i; verdicts = s₀ .verdicts; running = s₀ .running; behind = s₀ .behind })))
 
--- recorded sections are as long as they should be
-sized-recorded : (xs : List ℕ) (ws : List Change) → queue-length ≤ length xs → getD xs landed-count 0 ≤ most-landed → length ws ≤ most-waiting → getD xs rejected-count 0 ≤ most-rejected → Sized (recorded-sections xs ws)
-sized-recorded xs ws long fl fw fr = record {
-  counters = refl;
-  landed = section-long most-landed (landed-in xs) (omega (arith, count-landed xs));
-  waiting = section-long most-waiting ws fw;
-  rejected = section-long most-rejected (rejected-in xs) (omega (arith, count-rejected xs));
-  verdicts = sized-sections xs long .verdicts;
-  running = sized-sections xs long .running;
+-- a queue's changes fit their sections
+fitting-sound : (xs : List ℕ) (n : Counts) → Sound xs n → Fitting (landed-in xs) (waiting-in xs) (rejected-in xs)
+fitting-sound xs n h = record {
+  landed = omega (arith, h .can-land, h .counted .landed, h .counted .waiting, count-landed xs, count-waiting xs);
+  waiting = omega (arith, h .counted .waiting, n .«few_waiting», count-waiting xs);
+  rejected = omega (arith, h .can-reject, h .counted .rejected, h .counted .waiting, count-rejected xs, count-waiting xs);
+  small-landed = small-changes (getD xs landed-count 0) (drop landed-at xs);
+  small-waiting = small-changes (getD xs waiting-count 0) (drop waiting-at xs);
+  small-rejected = small-changes (getD xs rejected-count 0) (drop rejected-at xs);
 }
 
--- the same of a queue whose counts are known
-pub sized-counted : (xs : List ℕ) (n : Counts) → queue-length ≤ length xs → Counted xs n → Sized (recorded-sections xs (waiting-in xs))
-sized-counted xs n long e =
-    sized-recorded xs (waiting-in xs) long (omega (arith, e .landed, n .«few_landed»))
-    (omega (arith, e .waiting, n .«few_waiting», count-waiting xs)) (omega (arith, e .rejected, n .«few_rejected»))
-
--- as many wait as the count says
-pub length-waiting : (xs : List ℕ) (n : ℕ) → n ≡ getD xs waiting-count 0 → n ≡ length (waiting-in xs)
-length-waiting xs n e = e ∙ sym (count-waiting xs)
-
--- those that wait are written over, and then their count
-pub waiting-recorded : (xs ys zs : List ℕ) (ws vs : List Change) (n : ℕ) → Sized (recorded-sections xs ws) → ys ≡ whole (recorded-sections xs ws) →
-    (sections ys .waiting ≡ changes-section most-waiting ws → zs ≡ changes-section most-waiting vs) → n ≡ length vs →
-    set (putMid waiting-at (change-width * most-waiting) ys zs) waiting-count n ≡ whole (recorded-sections xs vs)
-waiting-recorded xs ys zs ws vs n z e h count =
-    let s : Sections = recorded-sections xs ws in
-    let w : zs ≡ changes-section most-waiting vs = h (waiting-part ys s z e) in
-    ap (λ l. set (putMid waiting-at (change-width * most-waiting) l zs) waiting-count n) e
-    ∙ (ap (λ l. set l waiting-count n) (put-waiting s zs z)
-    ∙ (λ i. whole (recorded-as (w i) (count i))))
-  where
-    recorded-as : List ℕ → ℕ → Sections
-    recorded-as zs n = record {
-      counters = getD xs benches-at 0 ∷ getD xs depth-at 0 ∷ length (landed-in xs) ∷ n ∷ length (rejected-in xs) ∷ getD xs verdicts-count 0 ∷ getD xs running-count 0 ∷ getD xs requested-at 0 ∷ [];
-      landed = changes-section most-landed (landed-in xs);
-      waiting = zs;
-      rejected = changes-section most-rejected (rejected-in xs);
-      verdicts = sections xs .verdicts;
-      running = sections xs .running;
-      behind = sections xs .behind;
+-- numbers in which others wait say the state in which they do
+pub says-changes : (xs ys : List ℕ) (W : List Change) → Runs-fit xs → Fitting (landed-in xs) W (rejected-in xs) → ys ≡ whole (with-changes xs (landed-in xs) W (rejected-in xs)) → Says xs (with-waiting (decode xs) W) ys
+unfolding decode
+says-changes xs ys W h fit is =
+    let same : landed-in xs ++ [] ≡ landed-in xs = append-nil (landed-in xs) in
+    let fit₁ : Fitting (landed-in xs ++ []) W (rejected-in xs) = subst (λ (cs : List Change). Fitting cs W (rejected-in xs)) (sym same) fit in
+    let is₁ : ys ≡ whole (with-changes xs (landed-in xs ++ []) W (rejected-in xs)) = is ∙ ap (λ cs. whole (with-changes xs cs W (rejected-in xs))) (sym same) in
+    record {
+      settled = settled-changed xs ys [] W (rejected-in xs) h fit₁ is₁;
+      state = decode-changed xs ys [] W (rejected-in xs) h fit₁ is₁
+          ∙ ap (λ cs. record { landed = cs; waiting = W; rejected = rejected-in xs; verdicts = decode xs .verdicts; running = decode xs .running; requested = decode xs .requested }) same;
+      config = config-changed xs ys (landed-in xs) W (rejected-in xs) is;
+      behind = behind-changed xs ys (landed-in xs) W (rejected-in xs) (h .long) fit is;
     }
+
+-- so the slice is ready for the next stage, and says what it said
+pub says-tidied : (xs ys : List ℕ) (n : Counts) → Sound xs n → ys ≡ whole (with-changes xs (landed-in xs) (waiting-in xs) (rejected-in xs)) → Says xs (decode xs) ys × Sound ys n
+unfolding decode
+says-tidied xs ys n h is =
+    let fit = fitting-sound xs n h in
+    let said = says-changes xs ys (waiting-in xs) (h .runs) fit is in (
+      record { settled = said .settled; state = said .state; config = said .config; behind = said .behind },
+      record {
+        counted = record {
+          landed = h .counted .landed ∙ sym (ap (λ l. getD l landed-count 0) is ∙ count-landed xs);
+          waiting = h .counted .waiting ∙ sym (ap (λ l. getD l waiting-count 0) is ∙ count-waiting xs);
+          rejected = h .counted .rejected ∙ sym (ap (λ l. getD l rejected-count 0) is ∙ count-rejected xs);
+          verdicts = h .counted .verdicts ∙ sym (ap (λ l. getD l verdicts-count 0) is);
+          running = h .counted .running ∙ sym (ap (λ l. getD l running-count 0) is);
+        };
+        runs = runs-settled ys (said .settled);
+        can-land = h .can-land;
+        can-reject = h .can-reject;
+      },
+    )
 
 -- one more waits
 pub joined-waiting : (ws : List Change) (c : Change) (n : ℕ) → n ≡ length ws → n < most-waiting →
@@ -169,3 +163,54 @@ dropped-waiting n ws i m e count few =
       omega (arith, l, length-take-le i ws (omega (arith, at .0)), length-drop (suc i) ws, at .0),
       omega (arith, at .0),
     )
+
+-- one stage after another
+pub says-next : (xs ys zs : List ℕ) (p q r : Queue) → Says xs p ys → Says ys q zs → q ≡ r → Says xs r zs
+says-next xs ys zs p q r a b e = record { settled = b .settled; state = b .state ∙ e; config = b .config ∙ a .config; behind = b .behind ∙ a .behind }
+
+-- those that wait are written over, and then their count
+pub says-waiting : (ys zs : List ℕ) (W : List Change) (n : ℕ) → Settled ys → Fitting (landed-in ys) W (rejected-in ys) →
+    (sections ys .waiting ≡ changes-section most-waiting (waiting-in ys) → zs ≡ changes-section most-waiting W) → n ≡ length W →
+    Says ys (with-waiting (decode ys) W) (set (putMid waiting-at (change-width * most-waiting) ys zs) waiting-count n)
+says-waiting ys zs W n h fit f count =
+    says-changes ys (set (putMid waiting-at (change-width * most-waiting) ys zs) waiting-count n) W (runs-settled ys h) fit (waiting-written ys zs W n h count f)
+
+-- as many wait as the count says
+pub length-waiting : (ys : List ℕ) (n : Counts) → Sound ys n → n .waiting ≡ length (waiting-in ys)
+length-waiting ys n h = h .counted .waiting ∙ sym (count-waiting ys)
+
+-- room for one more that waits
+pub fitting-more : (ys : List ℕ) (n : Counts) (c : Change) → Sound ys n → Roomy n → Small c → Fitting (landed-in ys) (waiting-in ys ++ c ∷ []) (rejected-in ys)
+fitting-more ys n c h r small =
+    let fit = fitting-sound ys n h in
+    let l = length-push (waiting-in ys) c in
+    let w = length-waiting ys n h in
+    record {
+      landed = omega (arith, l, w, r .can-land, h .counted .landed, count-landed ys);
+      waiting = omega (arith, l, w, r .can-wait);
+      rejected = omega (arith, l, w, r .can-reject, h .counted .rejected, count-rejected ys);
+      small-landed = fit .small-landed;
+      small-waiting = all-push Small (waiting-in ys) c (fit .small-waiting) small;
+      small-rejected = fit .small-rejected;
+    }
+
+-- and for one fewer
+pub fitting-fewer : (ys : List ℕ) (n : Counts) (number place : ℕ) → Sound ys n → place-of number (waiting-in ys) ≡ Some place → Fitting (landed-in ys) (dropped number (waiting-in ys)) (rejected-in ys)
+fitting-fewer ys n number place h e =
+    let fit = fitting-sound ys n h in
+    let ws : List Change = waiting-in ys in
+    let gone = dropped-waiting number ws place (n .waiting) e (length-waiting ys n h) (n .«few_waiting») in
+    let w = length-waiting ys n h in
+    record {
+      landed = omega (arith, gone .1, w, fit .landed);
+      waiting = omega (arith, gone .1, w, fit .waiting);
+      rejected = omega (arith, gone .1, w, fit .rejected);
+      small-landed = fit .small-landed;
+      small-waiting = subst (All Small) (sym (dropped-at number ws place e .1)) (all-append Small (take place ws) (drop (suc place) ws) (all-take Small place ws (fit .small-waiting)) (all-drop Small (suc place) ws (fit .small-waiting)));
+      small-rejected = fit .small-rejected;
+    }
+
+-- a change that waits at a place waits there still
+pub says-same-waiting : (xs ys : List ℕ) (number place : ℕ) → Says xs (decode xs) ys → place-of number (waiting-in xs) ≡ Some place → place-of number (waiting-in ys) ≡ Some place
+unfolding decode
+says-same-waiting xs ys number place said e = ap (λ (q : Queue). place-of number (q .waiting)) (said .state) ∙ e

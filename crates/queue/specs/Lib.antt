@@ -1,6 +1,6 @@
 pub mod Queue
 pub mod Events
-pub mod Counted
+pub mod Stages
 pub mod Refusals
 pub mod Entry
 pub mod WorkedDay

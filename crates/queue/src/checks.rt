@@ -6,10 +6,10 @@ ghost use Rattle.change.specs.Change.{most-parts, place-of};
 ghost use Rattle.change.specs.Records.{Tallies, change-in, change-of, change-width, changes-in};
 ghost use Rattle.run.specs.Limits.{most-following};
 ghost use Rattle.std.specs.Options.{mapped};
-ghost use Rattle.queue.specs.Counted.{Counted, kind-number};
-ghost use Rattle.run.specs.Layout.{event-length, landed-at, most-waiting, queue-length, requested-at};
-ghost use Rattle.run.specs.Numbers.{waiting-in};
-ghost use Rattle.queue.specs.Refusals.{Hands, benches-check, check-of, count-check, counts-check, depth-check, event-check, length-check, number-check, over, overlong, parts-check, records-check, requests-check, room-check, runs-check, sums-check, waits-check, withdraw-kind};
+ghost use Rattle.queue.specs.Stages.{Counted, Roomy, kind-number};
+ghost use Rattle.run.specs.Layout.{event-length, landed-at, most-landed, most-rejected, most-verdicts, queue-length, requested-at};
+ghost use Rattle.run.specs.Numbers.{Runs-fit, landed-in, waiting-in};
+ghost use Rattle.queue.specs.Refusals.{Hands, benches-check, check-of, count-check, counts-check, depth-check, event-check, length-check, number-check, over, overlong, parts-check, records-check, requests-check, room-check, runs-check, sums-check, verdicts-check, waits-check, place-check, report-kind};
 ghost use Rattle.queue.specs.declared.reply.Refusal.the-variants.{Malformed};
 ghost use Rattle.std.specs.declared.option.Option.the-variants.{Some};
 use super::counts::Counts;
@@ -135,7 +135,7 @@ pub fn check_records(queue: &[u64], counts: Counts) -> Result<Counts, Refusal>
 pub fn check_sums(queue: &[u64], counts: Counts) -> Result<Counts, Refusal>
     requires counted { ⌜ Counted (now queue) counts ⌝ }
     ensures says { λ r. ⌜ check-of r ≡ sums-check (now (queue .entry)) ⌝ }
-    ensures hands { λ r. ⌜ Hands r (λ n. n ≡ counts) ⌝ }
+    ensures hands { λ r. ⌜ Hands r (λ n. (n ≡ counts) × (counts .landed + counts .waiting ≤ most-landed) × (counts .rejected + counts .waiting ≤ most-rejected)) ⌝ }
 {
     if counts.landed + counts.waiting > MOST_LANDED {
         return Err(Refusal::Malformed(LANDED_COUNT as u64));
@@ -172,12 +172,12 @@ fn first_overlong(
     None
 }
 
-// No run begins with more landed changes than its part has.
-pub fn check_runs(queue: &[u64], counts: Counts) -> Result<Counts, Refusal>
+// No run begins with more landed changes than its part has; how many landed changes each part has.
+pub fn check_runs(queue: &[u64], counts: Counts) -> Result<[u64; PARTS], Refusal>
     requires long { ⌜ queue-length ≤ length (now queue) ⌝ }
     requires counted { ⌜ Counted (now queue) counts ⌝ }
     ensures says { λ r. ⌜ check-of r ≡ runs-check (now (queue .entry)) ⌝ }
-    ensures hands { λ r. ⌜ Hands r (λ n. n ≡ counts) ⌝ }
+    ensures hands { λ r. ⌜ Hands r (λ t. Tallies t (landed-in (now (queue .entry))) × Runs-fit (now (queue .entry))) ⌝ }
 {
     let landed = counts.landed;
     let tally = change::tally_parts(queue, LANDED_AT, landed);
@@ -189,7 +189,7 @@ pub fn check_runs(queue: &[u64], counts: Counts) -> Result<Counts, Refusal>
     if let Some(at) = first_overlong(queue, &tally, landed, RUNNING_AT, RUN_WIDTH, running) {
         return Err(Refusal::Malformed(at as u64));
     }
-    Ok(counts)
+    Ok(tally)
 }
 
 // There are benches, and not too many.
@@ -218,7 +218,7 @@ pub fn check_depth(depth: u64) -> Result<u64, Refusal>
 
 // The event is long enough, of a known kind, and its number is small enough.
 pub fn check_event(event: &[u64]) -> Result<Kind, Refusal>
-    ensures says { λ r. ⌜ check-of r ≡ event-check withdraw-kind (now (event .entry)) ⌝ }
+    ensures says { λ r. ⌜ check-of r ≡ event-check report-kind (now (event .entry)) ⌝ }
     ensures hands { λ r. ⌜ Hands r (λ k. (kind-number k ≡ getD (now (event .entry)) 0 0) × (event-length ≤ length (now (event .entry)))) ⌝ }
 {
     if event.len() < EVENT_LENGTH {
@@ -230,6 +230,7 @@ pub fn check_event(event: &[u64]) -> Result<Kind, Refusal>
     match event[0] {
         0 => Ok(Kind::Submit),
         1 => Ok(Kind::Withdraw),
+        2 => Ok(Kind::Report),
         _ => Err(Refusal::Event),
     }
 }
@@ -286,7 +287,7 @@ pub fn check_waits(queue: &[u64], counts: Counts, number: u64) -> Result<usize, 
 pub fn check_room(queue: &[u64], counts: Counts) -> Result<usize, Refusal>
     requires { ⌜ Counted (now queue) counts ⌝ }
     ensures says { λ r. ⌜ check-of r ≡ room-check (now (queue .entry)) ⌝ }
-    ensures hands { λ r. ⌜ Hands r (λ i. (i ≡ counts .waiting) × (i < most-waiting)) ⌝ }
+    ensures hands { λ r. ⌜ Hands r (λ i. (i ≡ counts .waiting) × Roomy counts) ⌝ }
 {
     if counts.waiting >= MOST_WAITING {
         return Err(Refusal::WaitingFull);
@@ -298,6 +299,30 @@ pub fn check_room(queue: &[u64], counts: Counts) -> Result<usize, Refusal>
         return Err(Refusal::RejectedFull);
     }
     Ok(counts.waiting)
+}
+
+// The place of a run that is running.
+pub fn check_place(queue: &[u64], counts: Counts, place: u64) -> Result<usize, Refusal>
+    requires { ⌜ Counted (now queue) counts ⌝ }
+    ensures says { λ r. ⌜ check-of r ≡ place-check (now (queue .entry)) place ⌝ }
+    ensures hands { λ r. ⌜ Hands r (λ i. (i ≡ place) × (i < counts .running)) ⌝ }
+{
+    if place >= counts.running as u64 {
+        return Err(Refusal::NotRunning(place));
+    }
+    Ok(place as usize)
+}
+
+// One more verdict can be held; the place where it will stand.
+pub fn check_verdicts(queue: &[u64], counts: Counts) -> Result<usize, Refusal>
+    requires { ⌜ Counted (now queue) counts ⌝ }
+    ensures says { λ r. ⌜ check-of r ≡ verdicts-check (now (queue .entry)) ⌝ }
+    ensures hands { λ r. ⌜ Hands r (λ i. (i ≡ counts .verdicts) × (i < most-verdicts)) ⌝ }
+{
+    if counts.verdicts >= MOST_VERDICTS {
+        return Err(Refusal::VerdictsFull);
+    }
+    Ok(counts.verdicts)
 }
 
 // How many runs were requested, if one more can be counted.

@@ -3,4 +3,5 @@
 pub enum Kind {
     Submit,
     Withdraw,
+    Report,
 }

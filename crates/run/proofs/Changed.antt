@@ -11,19 +11,19 @@ use Rattle.std.specs.shelf.Lists.{All}
 use Rattle.std.proofs.shelf.Lists.{drop-drop, take-append-le}
 use Rattle.change.specs.Change.{Change, line}
 use Rattle.change.specs.Records.{change-in, change-row, change-width, changes-in}
-use Rattle.change.proofs.Rows.{length-rows}
+use Rattle.change.proofs.Rows.{length-rows, rows-same}
 use Rattle.change.proofs.Changes.{length-change-row, line-append}
 use Rattle.change.proofs.Tables.{length-table}
 use Rattle.run.specs.Run.{Run, Verdict}
-use Rattle.run.specs.Records.{run-in, verdict-in, verdicts-in, run-width, verdict-width}
+use Rattle.run.specs.Records.{run-in, verdict-in, verdicts-in, run-width, verdict-width, runs-in}
 use Rattle.run.specs.Limits.{most-following}
 use Rattle.run.specs.Layout.{most-landed, most-waiting, most-rejected, most-verdicts, most-running, benches-at, depth-at, landed-count, waiting-count, rejected-count, verdicts-count, running-count, requested-at, landed-at, waiting-at, rejected-at, verdicts-at, running-at, queue-length}
-use Rattle.run.specs.Numbers.{Sections, sections, whole, landed-in, waiting-in, rejected-in, with-changes, changes-section, Begins, Settled, Small}
+use Rattle.run.specs.Numbers.{Sections, sections, whole, landed-in, waiting-in, rejected-in, with-changes, changes-section, Begins, Settled, Small, Runs-fit, decode, config-in}
 use Rattle.run.proofs.Sections.{Sized, put-landed, put-waiting, put-rejected, sized-sections, sections-whole, long-whole, cut}
 use Rattle.run.proofs.Round.{change-records, read-section}
 
 -- a section of changes is as long as it should be
-section-long : (most : ℕ) (cs : List Change) → length cs ≤ most → length (changes-section most cs) ≡ change-width * most
+pub section-long : (most : ℕ) (cs : List Change) → length cs ≤ most → length (changes-section most cs) ≡ change-width * most
 section-long most cs few = length-table change-row change-width length-change-row (change-width * most) cs (omega arith)
 
 -- as many changes are read as the counts say
@@ -110,7 +110,7 @@ module _ (xs : List ℕ) (L W R : List Change) (long : queue-length ≤ length x
         }
 
     -- what stands from the verdicts on stays
-    running-stays : drop running-at ys ≡ drop running-at xs
+    pub running-stays : drop running-at ys ≡ drop running-at xs
     running-stays =
         sym (cut running-at (run-width * most-running) queue-length ys refl) ∙ ((λ i. sections-are i .running ++ sections-are i .behind) ∙ cut running-at (run-width * most-running) queue-length xs refl)
 
@@ -131,15 +131,22 @@ run-in-more cs ds xs fits =
     let t : take (getD xs 1 0) (line p (cs ++ ds)) ≡ take (getD xs 1 0) (line p cs) = ap (take (getD xs 1 0)) (line-append p cs ds) ∙ take-append-le (getD xs 1 0) (line p cs) (line p ds) fits in
     λ i. record { part = p; changes = t i ++ take (min (getD xs 2 0) most-following) (drop 3 xs) }
 
-pub verdicts-more : (cs ds : List Change) (n : ℕ) (xs : List ℕ) → ((k : ℕ) → k < n → Begins cs (drop (verdict-width * k) xs)) → verdicts-in (cs ++ ds) n xs ≡ verdicts-in cs n xs
-verdicts-more cs ds zero xs fit = refl
-verdicts-more cs ds (suc n) xs fit =
-    let h = run-in-more cs ds xs (fit 0 (omega arith)) in
-    let t = verdicts-more cs ds n (drop verdict-width xs) (λ k lt. subst (Begins cs) (sym (drop-drop (verdict-width * k) verdict-width xs ∙ ap (λ u. drop u xs) (omega (arith, mul-suc verdict-width k)))) (fit (suc k) (omega arith))) in
-    λ i. record { run = h i; good = eqb (getD xs run-width 0) 1 } ∷ t i
+-- runs that fit, in records of this width
+abbrev Fit : ℕ → List Change → ℕ → List ℕ → Type 0
+Fit w cs n xs = (k : ℕ) → k < n → Begins cs (drop (w * k) xs)
+
+verdicts-more : (cs ds : List Change) (n : ℕ) (xs : List ℕ) → Fit verdict-width cs n xs → verdicts-in (cs ++ ds) n xs ≡ verdicts-in cs n xs
+verdicts-more cs ds n xs fit =
+    rows-same (verdict-in (cs ++ ds)) (verdict-in cs) verdict-width n xs (λ k lt i. record { run = run-in-more cs ds (drop (verdict-width * k) xs) (fit k lt) i; good = eqb (getD (drop (verdict-width * k) xs) run-width 0) 1 })
+
+runs-more : (cs ds : List Change) (n : ℕ) (xs : List ℕ) → Fit run-width cs n xs → runs-in (cs ++ ds) n xs ≡ runs-in cs n xs
+runs-more cs ds n xs fit = rows-same (run-in (cs ++ ds)) (run-in cs) run-width n xs (λ k lt. run-in-more cs ds (drop (run-width * k) xs) (fit k lt))
+
+pub runs-settled : (xs : List ℕ) → Settled xs → Runs-fit xs
+runs-settled xs h = record { long = h .long; few-verdicts = h .few-verdicts; few-running = h .few-running; verdicts-fit = h .verdicts-fit; running-fit = h .running-fit }
 
 -- numbers that a step works on, in which more has landed and others wait or are rejected, are such numbers again
-pub settled-changed : (xs ys : List ℕ) (ds W R : List Change) → Settled xs → Fitting (landed-in xs ++ ds) W R → ys ≡ whole (with-changes xs (landed-in xs ++ ds) W R) → Settled ys
+pub settled-changed : (xs ys : List ℕ) (ds W R : List Change) → Runs-fit xs → Fitting (landed-in xs ++ ds) W R → ys ≡ whole (with-changes xs (landed-in xs ++ ds) W R) → Settled ys
 settled-changed xs ys ds W R h fit is =
     let L : List Change = landed-in xs ++ ds in
     let long = h .long in
@@ -166,7 +173,7 @@ settled-changed xs ys ds W R h fit is =
     }
 
 -- and their verdicts say the same
-pub verdicts-changed : (xs ys : List ℕ) (ds W R : List Change) → Settled xs → Fitting (landed-in xs ++ ds) W R → ys ≡ whole (with-changes xs (landed-in xs ++ ds) W R) →
+pub verdicts-changed : (xs ys : List ℕ) (ds W R : List Change) → Runs-fit xs → Fitting (landed-in xs ++ ds) W R → ys ≡ whole (with-changes xs (landed-in xs ++ ds) W R) →
     verdicts-in (landed-in ys) (getD ys verdicts-count 0) (drop verdicts-at ys) ≡ verdicts-in (landed-in xs) (getD xs verdicts-count 0) (drop verdicts-at xs)
 verdicts-changed xs ys ds W R h fit is =
     let L : List Change = landed-in xs ++ ds in
@@ -175,6 +182,29 @@ verdicts-changed xs ys ds W R h fit is =
     let count : getD ys verdicts-count 0 ≡ getD xs verdicts-count 0 = ap (λ l. getD l verdicts-count 0) is in
     (λ i. verdicts-in (landed i) (count i) (stays i))
     ∙ verdicts-more (landed-in xs) ds (getD xs verdicts-count 0) (drop verdicts-at xs) (λ k lt. subst (Begins (landed-in xs)) (sym (drop-drop (verdict-width * k) verdicts-at xs)) (h .verdicts-fit k lt))
+
+-- so they say the state with these changes; their config, and what lies behind them, are as they were
+pub decode-changed : (xs ys : List ℕ) (ds W R : List Change) → Runs-fit xs → Fitting (landed-in xs ++ ds) W R → ys ≡ whole (with-changes xs (landed-in xs ++ ds) W R) →
+    decode ys ≡ record { landed = landed-in xs ++ ds; waiting = W; rejected = R; verdicts = decode xs .verdicts; running = decode xs .running; requested = decode xs .requested }
+unfolding decode
+decode-changed xs ys ds W R h fit is =
+    let L : List Change = landed-in xs ++ ds in
+    let landed = landed-changed xs L W R (h .long) fit ys is in
+    let waiting = waiting-changed xs L W R (h .long) fit ys is in
+    let rejected = rejected-changed xs L W R (h .long) fit ys is in
+    let verdicts = verdicts-changed xs ys ds W R h fit is in
+    let stays = running-stays xs L W R (h .long) fit ys is in
+    let count : getD ys running-count 0 ≡ getD xs running-count 0 = ap (λ l. getD l running-count 0) is in
+    let running = (λ i. runs-in (landed i) (count i) (stays i))
+    ∙ runs-more (landed-in xs) ds (getD xs running-count 0) (drop running-at xs) (λ k lt. subst (Begins (landed-in xs)) (sym (drop-drop (run-width * k) running-at xs)) (h .running-fit k lt)) in
+    let requested : getD ys requested-at 0 ≡ getD xs requested-at 0 = ap (λ l. getD l requested-at 0) is in
+    λ i. record { landed = landed i; waiting = waiting i; rejected = rejected i; verdicts = verdicts i; running = running i; requested = requested i }
+
+pub config-changed : (xs ys : List ℕ) (L W R : List Change) → ys ≡ whole (with-changes xs L W R) → config-in ys ≡ config-in xs
+config-changed xs ys L W R is = ap config-in is
+
+pub behind-changed : (xs ys : List ℕ) (L W R : List Change) → queue-length ≤ length xs → Fitting L W R → ys ≡ whole (with-changes xs L W R) → drop queue-length ys ≡ drop queue-length xs
+behind-changed xs ys L W R long fit is = ap (λ (s : Sections). s .behind) (ap sections is ∙ sections-whole (with-changes xs L W R) (sized-changes xs L W R long fit))
 
 -- the numbers with these counts and sections of changes
 abbrev counted : List ℕ → ℕ → List ℕ → ℕ → List ℕ → ℕ → List ℕ → Sections

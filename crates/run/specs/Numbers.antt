@@ -93,6 +93,14 @@ with-changes xs landed waiting rejected = record {
 abbrev pub Begins : List Change → List ℕ → Type 0
 Begins landed xs = getD xs 1 0 ≤ length (line (getD xs 0 0) landed)
 
+-- numbers long enough for a queue, whose runs keep to their sections and fit what has landed
+pub record Runs-fit (xs : List ℕ) : Type 0 where
+  pub long : queue-length ≤ length xs
+  pub few-verdicts : getD xs verdicts-count 0 ≤ most-verdicts
+  pub few-running : getD xs running-count 0 ≤ most-running
+  pub verdicts-fit : (k : ℕ) → k < getD xs verdicts-count 0 → Begins (landed-in xs) (drop (verdicts-at + verdict-width * k) xs)
+  pub running-fit : (k : ℕ) → k < getD xs running-count 0 → Begins (landed-in xs) (drop (running-at + run-width * k) xs)
+
 -- numbers that a step works on: changes are written as they read, counts keep to their sections, runs fit what has landed
 pub record Settled (xs : List ℕ) : Type 0 where
   pub long : queue-length ≤ length xs
