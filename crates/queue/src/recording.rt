@@ -43,3 +43,25 @@ pub fn record_withdraw(queue: &mut [u64], counts: Counts, number: u64, place: us
     change::remove_change(&mut queue[WAITING_AT..REJECTED_AT], counts.waiting, place);
     queue[WAITING_COUNT] = counts.waiting as u64 - 1;
 }
+
+// The run at this place runs no more, and the verdict on it is held.
+pub fn record_report(queue: &mut [u64], counts: Counts, place: usize, good: bool)
+    requires sound { ⌜ Sound (now queue) counts ⌝ }
+    requires there { ⌜ place < counts .running ⌝ }
+    requires few { ⌜ counts .verdicts < most-verdicts ⌝ }
+    ensures { λ _. ⌜ Says (now (queue .entry)) (recorded (decode (now (queue .entry))) (report place good)) (now (queue .exit)) ⌝ }
+{
+    tidy(queue, counts);
+    let at = RUNNING_AT + RUN_WIDTH * place;
+    let run = run::read_run(&queue[at..at + RUN_WIDTH]);
+    run::append_verdict(
+        &mut queue[VERDICTS_AT..RUNNING_AT],
+        counts.verdicts,
+        run,
+        good,
+    );
+    let running = &mut queue[RUNNING_AT..QUEUE_LENGTH];
+    change::remove_record(running, RUN_WIDTH, counts.running, place);
+    queue[VERDICTS_COUNT] = counts.verdicts as u64 + 1;
+    queue[RUNNING_COUNT] = counts.running as u64 - 1;
+}
