@@ -1,7 +1,7 @@
 -- Laws of looking at verdicts: which of them is of a run, what that says of a change's runs, and whether the change shares a part with an earlier one.
 use mathlib.Core.Path.{_≡_, refl, sym, ap, _∙_}
 use mathlib.Core.Bool.{Bool, true, false, cond, _||_, _&&_}
-use mathlib.Core.List.{List, [], _∷_, _++_}
+use mathlib.Core.List.{List, _∷_}
 use Prim.Native.Nat.{ℕ, _+_, _-_, _*_, _≤_, _<_}
 use native.Mathlib.Omega.{arith}
 use lib.Dec.{eqb}
@@ -9,12 +9,12 @@ use lib.ListN.{length, getD, take, drop, length-take, length-drop}
 use Rattle.std.proofs.shelf.Lists.{at-drop-more, at-drop-all, getD-take, length-take-le}
 use Rattle.std.proofs.shelf.Tests.{eq-eqb, ne-eqb}
 use Rattle.change.specs.Change.{Change, line, share}
-use Rattle.change.specs.Records.{change-in, change-of, change-width, changes-in}
+use Rattle.change.specs.Records.{change-in, change-of, change-width}
 use Rattle.change.specs.declared.change.Change as declared-change
-use Rattle.change.proofs.Rows.{rest, rest-all, rest-more, rest-none}
+use Rattle.change.proofs.Rows.{rest, rest-all, rest-more}
 use Rattle.run.specs.Layout.{verdicts-at}
 use Rattle.run.specs.Numbers.{Begins}
-use Rattle.run.specs.Records.{run-in, run-of, run-width, verdict-in, verdict-width, verdicts-in}
+use Rattle.run.specs.Records.{run-in, run-width, verdict-in, verdict-width, verdicts-in}
 use Rattle.run.specs.Run.{Run, Verdict, heard, is-bad, is-good, run-on, runs-on, same-run}
 use Rattle.run.specs.declared.known.Known.{Known}
 use Rattle.run.specs.declared.known.Known.the-variants.{Nothing, Good, Bad}
@@ -57,9 +57,6 @@ module _ (cs : List Change) (xs : List ℕ) (n k : ℕ) (r : Run) (lt : k < n) w
 
 -- the decision by the runs on a change's parts from the p-th on: that one is known good, known bad, or not known
 module _ (cs : List Change) (number : ℕ) (ps : List ℕ) (p : ℕ) (vs : List Verdict) (d : Decision) (lt : p < length ps) where
-  later : List Run
-  later = runs-on cs number (drop (p + 1) ps)
-
   by-next : decision-by d (runs-on cs number (drop p ps)) vs ≡ decision-by d (run-on cs number (getD ps p 0) ∷ runs-on cs number (drop (p + 1) ps)) vs
   by-next = at-drop-more (λ qs. decision-by d (runs-on cs number qs) vs) ps p 0 lt
 

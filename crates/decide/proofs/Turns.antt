@@ -1,14 +1,14 @@
 -- Laws of one turn of the pass: how the pass goes on when the change at hand waits, lands or is rejected, and what the numbers say then.
 use mathlib.Core.Path.{_≡_, refl, sym, ap, subst, _∙_}
-use mathlib.Core.Bool.{Bool, true, false, cond}
+use mathlib.Core.Bool.{true, false}
 use mathlib.Core.List.{List, [], _∷_, _++_}
-use Prim.Native.Nat.{ℕ, zero, suc, _+_, _-_, _*_, _≤_, _<_}
+use Prim.Native.Nat.{ℕ, _+_, _-_, _*_, _≤_, _<_}
 use native.Mathlib.Omega.{arith}
 use lib.ListN.{length, getD, take, drop}
 use Rattle.std.proofs.shelf.Elements.{all-getD, all-push}
 use Rattle.std.proofs.shelf.Lists.{append-nil, drop-all, drop-at, drop-drop, drop-more, length-push, length-take-le, take-all, take-at, take-more}
 use Rattle.change.specs.Change.{Change, without}
-use Rattle.change.specs.Records.{change-in, change-width, changes-in, rows}
+use Rattle.change.specs.Records.{Tallies, change-in, change-width, changes-in, rows}
 use Rattle.change.proofs.Rows.{length-rows, rows-append}
 use Rattle.change.proofs.Tables.{getD-rows}
 use Rattle.run.specs.Layout.{landed-count, most-landed, most-rejected, rejected-count, verdicts-at, verdicts-count, waiting-at, waiting-count}
@@ -229,3 +229,21 @@ module _ (old new : List ℕ) (i : ℕ) (x : Change) (u : Underway old new i) (l
         moves zs L [] (R ++ x ∷ []) (sym (append-nil L)) fit
         (z ∙ (ap whole (changes-again new L (without i W) R (u .settled .long) fit-out ys out (landed-in ys) (waiting-in ys) (rejected-in ys ++ x ∷ [])) ∙ (λ j. whole (with-changes new (landed-out j) (waiting-out j) (rejected-out j ++ x ∷ [])))))
         (from-rejects (held-verdicts old) i L W R x there is d)
+
+-- so many turns were taken, and so many changes decided in them: the others are held; the tally counts what has landed
+pub record Turned (old new tally : List ℕ) (turn decided : ℕ) : Type 0 where
+  pub fewer : decided ≤ turn
+  pub underway : Underway old new (turn - decided)
+  pub left : getD new waiting-count 0 + decided ≡ getD old waiting-count 0
+  pub tallied : Tallies tally (landed-in new)
+
+pub turned-none : (xs tally : List ℕ) → Settled xs → Tallies tally (landed-in xs) → Turned xs xs tally 0 0
+turned-none xs tally h t = record { fewer = omega arith; underway = start xs h; left = omega arith; tallied = t }
+
+-- one more turn, in which the change is held, or decided
+module _ (old new tally : List ℕ) (turn decided : ℕ) (t : Turned old new tally turn decided) where
+  pub turned-held : Underway old new (turn - decided + 1) → Turned old new tally (turn + 1) decided
+  turned-held u = record { fewer = omega (arith, t .fewer); underway = subst (Underway old new) (omega (arith, t .fewer)) u; left = t .left; tallied = t .tallied }
+
+  pub turned-decided : (zs us : List ℕ) → Underway old zs (turn - decided) → getD zs waiting-count 0 + 1 ≡ getD new waiting-count 0 → Tallies us (landed-in zs) → Turned old zs us (turn + 1) (decided + 1)
+  turned-decided zs us u less c = record { fewer = omega (arith, t .fewer); underway = subst (Underway old zs) (omega (arith, t .fewer)) u; left = omega (arith, t .left); tallied = c }

@@ -1,7 +1,6 @@
 -- The pass on the lent numbers. Assumes nothing: these are definitions.
 use mathlib.Core.List.{List, []}
 use Prim.Native.Nat.{ℕ}
-use lib.ListN.{getD, drop}
 use Rattle.run.specs.Numbers.{Sections, landed-in, waiting-in, rejected-in, with-changes, decode}
 use Rattle.decide.specs.Decide.{Passed, pass}
 

@@ -1,7 +1,7 @@
 // Moving one change in the lent queue: out of those that wait, behind those that landed, behind those that were rejected.
 ghost use mathlib.Core.Path.{_≡_};
 ghost use mathlib.Core.Bool.{cond};
-ghost use mathlib.Core.List.{List, [], _∷_, _++_};
+ghost use mathlib.Core.List.{[], _∷_, _++_};
 ghost use Prim.Native.Nat.{ℕ, _+_, _<_, _^_};
 ghost use lib.ListN.{getD};
 ghost use Rattle.change.specs.Change.{has, part-limit, without};

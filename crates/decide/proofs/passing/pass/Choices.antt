@@ -1,23 +1,22 @@
 use mathlib.Core.Path.{_≡_}
-use Prim.Native.Nat.{_+_}
-use lib.ListN.{drop, getD}
-use Rattle.change.specs.Records.{Tallies, change-of, changes-in}
+use lib.ListN.{drop}
+use Rattle.change.specs.Records.{change-in, change-of, change-width, changes-in}
 use Rattle.change.proofs.Rows.{rest}
-use Rattle.run.specs.Layout.{landed-at, verdicts-at, waiting-count}
-use Rattle.run.specs.Numbers.{landed-in}
+use Rattle.run.specs.Layout.{landed-at, verdicts-at, waiting-at}
 use Rattle.run.specs.Records.{run-of, verdict-in, verdict-width, verdicts-in}
 use Rattle.run.specs.Run.{heard, runs-on}
-use Rattle.decide.specs.Decide.{decision-by}
+use Rattle.decide.specs.Decide.{decision-by, shares-any}
 use Rattle.decide.specs.declared.decision.Decision.the-variants.{Land}
-use Rattle.decide.proofs.Turns.{Underway}
+use Rattle.decide.proofs.Turns.{Turned}
 use Rattle.decide.proofs.passing.pass.Given as given
 
--- as many turns are left as changes that were not looked at
 abbrev pub Inv-changes : given.InvT-changes
-Inv-changes l =
-    Underway (l .entry .queue) (l .queue) (l .held)
-    × (getD (l .queue) waiting-count 0 + l .turn ≡ l .waiting + l .held)
-    × Tallies (l .tally) (landed-in (l .queue))
+Inv-changes l = Turned (l .entry .queue) (l .queue) (l .tally) (l .turn) (l .decided)
+
+-- the change shares a part with one of the earlier ones that are left if it does with any
+abbrev pub Inv-loop-h : given.InvT-loop-h
+Inv-loop-h l =
+    shares-any (change-of (l .c)) (rest change-in change-width (l .queue) waiting-at (l .held) (l .h)) ≡ shares-any (change-of (l .c)) (changes-in (l .held) (drop waiting-at (l .queue)))
 
 -- the runs on the parts that are left decide, with the decision so far, as all of them do
 abbrev pub Inv-parts : given.InvT-parts
