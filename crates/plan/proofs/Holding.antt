@@ -82,19 +82,22 @@ module _ (cs : List Change) (b v n m : ℕ) (vs xs ys row : List ℕ) (ks : List
   same-test : lacks-row b v vs n xs row ≡ wanted
   same-test =
       let a : not (has-row row (run-rows verdict-width v vs)) ≡ is-unknown (heard r ks) =
-          ap (λ u. not (has-row u (run-rows verdict-width v vs))) is
-          ∙ (ap (λ u. not (has-row (run-row cs r) u)) (holds-rows (λ (v : Verdict). run-row cs (v .run)) (verdict-row cs) (Ahead-verdict cs) verdict-width most-verdicts v (length-verdict-row cs) (verdict-front cs) vs ks hv) ∙ has-known cs r ahead ks (hv .all)) in
+      ap (λ u. not (has-row u (run-rows verdict-width v vs))) is
+      ∙ (ap (λ u. not (has-row (run-row cs r) u)) (holds-rows (λ (v : Verdict). run-row cs (v .run)) (verdict-row cs) (Ahead-verdict cs) verdict-width most-verdicts v (length-verdict-row cs) (verdict-front cs) vs ks hv) ∙ has-known cs r ahead ks (hv .all)) in
       let c : has-row row (run-rows run-width n xs) ≡ among r rs =
-          ap (λ u. has-row u (run-rows run-width n xs)) is
-          ∙ (ap (has-row (run-row cs r)) (holds-rows (run-row cs) (run-row cs) (Ahead cs) run-width most-running n (length-run-row cs) (run-front cs) xs rs h) ∙ has-among cs r ahead rs (h .all)) in
+      ap (λ u. has-row u (run-rows run-width n xs)) is
+      ∙ (ap (has-row (run-row cs r)) (holds-rows (run-row cs) (run-row cs) (Ahead cs) run-width most-running n (length-run-row cs) (run-front cs) xs rs h) ∙ has-among cs r ahead rs (h .all)) in
       λ i. ltb (h .count i) b && (a i && not (c i))
 
   by-test : (t : Bool) → wanted ≡ t → ys ≡ cond t (written (run-width * n) row xs) xs → m ≡ cond t (n + 1) n → Holds-runs cs m ys (cond t (rs ++ r ∷ []) rs)
   by-test true w e f =
       let lt : n < b = ltb-true n b (and-parts (ltb n b) _ (same-test ∙ w) .0) in
       record {
-          is = e ∙ (ap (λ u. written (run-width * n) u xs) is ∙ (ap (written (run-width * n) (run-row cs r)) (h .is) ∙ table-push (run-row cs) run-width (length-run-row cs) (run-width * most-running) (run-width * n) rs r (ap (λ u. run-width * u) (h .count)) (omega arith)));
-          all = all-push (Ahead cs) rs r (h .all) ahead; count = f ∙ omega (arith, h .count, length-push rs r); few = omega (arith, f) }
+        is = e ∙ (ap (λ u. written (run-width * n) u xs) is ∙ (ap (written (run-width * n) (run-row cs r)) (h .is) ∙ table-push (run-row cs) run-width (length-run-row cs) (run-width * most-running) (run-width * n) rs r (ap (λ u. run-width * u) (h .count)) (omega arith)));
+        all = all-push (Ahead cs) rs r (h .all) ahead;
+        count = f ∙ omega (arith, h .count, length-push rs r);
+        few = omega (arith, f);
+      }
   by-test false w e f = record { is = e ∙ h .is; all = h .all; count = f ∙ h .count; few = omega (arith, f, h .few) }
 
   pub request-one : ys ≡ cond (lacks-row b v vs n xs row) (written (run-width * n) row xs) xs → m ≡ cond (lacks-row b v vs n xs row) (n + 1) n → Holds-runs cs m ys (cond wanted (rs ++ r ∷ []) rs)

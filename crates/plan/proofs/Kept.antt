@@ -16,6 +16,7 @@ use Rattle.run.specs.Records.{run-width}
 use Rattle.run.specs.Numbers.{Begins}
 use Rattle.run.specs.declared.run.Run as declared
 use Rattle.plan.specs.Plan.{kept}
+use Rattle.plan.specs.Rows.{Holds}
 
 module _ {A : Type 0} (t : A → Bool) where
   -- one more, kept or not
@@ -31,7 +32,7 @@ module _ {A : Type 0} (t : A → Bool) where
   kept-no [] x e = ap (λ b. cond b (x ∷ []) []) e
   kept-no (y ∷ ys) x e = ap (λ l. cond (t y) (y ∷ l) l) (kept-no ys x e)
 
-  pub all-kept : (P : A → Type 0) → ((x : A) → t x ≡ true → P x) → (xs : List A) → All P (kept t xs)
+  all-kept : (P : A → Type 0) → ((x : A) → t x ≡ true → P x) → (xs : List A) → All P (kept t xs)
   all-kept P h [] = tt
   all-kept P h (x ∷ xs) = go (all-kept P h xs) (t x) refl
     where
@@ -39,7 +40,7 @@ module _ {A : Type 0} (t : A → Bool) where
       go ih true e = (h x e, ih)
       go ih false e = ih
 
-  pub length-kept : (xs : List A) → length (kept t xs) ≤ length xs
+  length-kept : (xs : List A) → length (kept t xs) ≤ length xs
   length-kept [] = omega arith
   length-kept (x ∷ xs) = go (length-kept xs) (t x)
     where
@@ -58,12 +59,18 @@ module _ {A : Type 0} (f : List ℕ → A) (row : A → List ℕ) (w n : ℕ) (l
   pub keep-yes : t x ≡ true → (out : List ℕ) (c : ℕ) → out ≡ table row n (so-far k) → c ≡ length (so-far k) → w * c + w ≤ n →
       (written (w * c) (row x) out ≡ table row n (so-far (k + 1))) × (c + 1 ≡ length (so-far (k + 1)))
   keep-yes e out c g h le =
-      let m : so-far (k + 1) ≡ so-far k ++ x ∷ [] = ap (kept t) more ∙ kept-yes t (rows f w k (drop base xs)) x e in
-      (ap (written (w * c) (row x)) g ∙ (table-push row w len n (w * c) (so-far k) x (ap (λ u. w * u) h) le ∙ ap (table row n) (sym m)),
-       omega (arith, ap length m, length-push (so-far k) x))
+      let m : so-far (k + 1) ≡ so-far k ++ x ∷ [] = ap (kept t) more ∙ kept-yes t (rows f w k (drop base xs)) x e in (
+        ap (written (w * c) (row x)) g ∙ (table-push row w len n (w * c) (so-far k) x (ap (λ u. w * u) h) le ∙ ap (table row n) (sym m)),
+        omega (arith, ap length m, length-push (so-far k) x),
+      )
 
   pub keep-no : t x ≡ false → so-far (k + 1) ≡ so-far k
   keep-no e = ap (kept t) more ∙ kept-no t (rows f w k (drop base xs)) x e
+
+-- what is kept and written to a section of 0 is held there
+pub kept-held : {A : Type 0} (row : A → List ℕ) (P : A → Type 0) (w most n : ℕ) (t : A → Bool) → ((x : A) → t x ≡ true → P x) → (xs : List ℕ) (ys : List A) → length ys ≤ most →
+    xs ≡ table row (w * most) (kept t ys) → n ≡ length (kept t ys) → Holds row P w most n xs (kept t ys)
+kept-held row P w most n t h xs ys few e f = record { is = e; all = all-kept t P h ys; count = f; few = omega (arith, f, length-kept t ys) }
 
 pub table-none : {A : Type 0} (row : A → List ℕ) (n : ℕ) → replicate n 0 ≡ table row n []
 unfolding table

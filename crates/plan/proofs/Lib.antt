@@ -1,4 +1,3 @@
-mod Same
 mod Ahead
 mod Among
 mod Kept

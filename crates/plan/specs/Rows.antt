@@ -9,18 +9,13 @@ use Rattle.std.specs.shelf.Lists.{All}
 use Rattle.std.specs.declared.option.Option.{Option}
 use Rattle.std.specs.declared.option.Option.the-variants.{Some, None}
 use Rattle.change.specs.Change.{Change}
-use Rattle.change.specs.Records.{rows, fixed, changes-in, table, Tallies}
-use Rattle.run.specs.Limits.{most-following}
+use Rattle.change.specs.Records.{rows, changes-in, table, Tallies}
 use Rattle.run.specs.Run.{Run, Verdict, same-list, run-on}
-use Rattle.run.specs.Records.{run-width, verdict-width, runs-in, verdicts-in, run-row, verdict-row, Ahead, Ahead-verdict}
+use Rattle.run.specs.Records.{run-width, verdict-width, runs-in, verdicts-in, row-of, run-row, verdict-row, Ahead, Ahead-verdict}
 use Rattle.run.specs.declared.run.Run as declared
-use Rattle.run.specs.Layout.{most-landed, most-waiting, most-verdicts, most-running, most-benches, most-depth, benches-at, depth-at, landed-count, waiting-count, rejected-count, verdicts-count, running-count, requested-at, waiting-at, verdicts-at, running-at, queue-length}
-use Rattle.run.specs.Numbers.{Sections, sections, landed-in, waiting-in}
+use Rattle.run.specs.Layout.{most-verdicts, most-running, most-benches, most-depth, benches-at, depth-at, landed-count, waiting-count, rejected-count, verdicts-count, running-count, requested-at, waiting-at, verdicts-at, running-at}
+use Rattle.run.specs.Numbers.{Sections, sections, landed-in, waiting-in, Settled}
 use Rattle.plan.specs.Plan.{among, useful, still-running, still-known, request}
-
--- the record of the code's struct: what it begins with is a count, and 0 stands behind the numbers that follow
-abbrev pub row-of : declared.Run → List ℕ
-row-of r = r .part ∷ r .begins ∷ r .follows ∷ fixed most-following (take (r .follows) (r .numbers))
 
 -- one of these rows is the row
 abbrev pub has-row : List ℕ → List (List ℕ) → Bool
@@ -44,11 +39,9 @@ Holds-runs landed n xs rs = Holds (run-row landed) (Ahead landed) run-width most
 abbrev pub Holds-verdicts : List Change → ℕ → List ℕ → List Verdict → Type 0
 Holds-verdicts landed n xs vs = Holds (verdict-row landed) (Ahead-verdict landed) verdict-width most-verdicts n xs vs
 
--- a queue of which the useful runs can be said, with the tally of its landed changes
+-- numbers that a step works on, their config in bounds, with the tally of what has landed
 pub record Ready (xs ts : List ℕ) : Type 0 where
-  pub long : queue-length ≤ length xs
-  pub few-landed : getD xs landed-count 0 ≤ most-landed
-  pub few-waiting : getD xs waiting-count 0 ≤ most-waiting
+  pub settled : Settled xs
   pub benches : getD xs benches-at 0 ≤ most-benches
   pub depth : getD xs depth-at 0 ≤ most-depth
   pub tally : Tallies ts (landed-in xs)
