@@ -20,7 +20,7 @@ use Rattle.run.specs.declared.run.Run as declared
 use Rattle.run.specs.Layout.{waiting-at, depth-at}
 use Rattle.run.specs.Numbers.{landed-in, waiting-in}
 use Rattle.plan.specs.Plan.{among, useful}
-use Rattle.plan.specs.Rows.{first-waiting, useful-now, Ready}
+use Rattle.plan.specs.Numbers.{first-waiting, useful-now, Ready}
 use Rattle.run.proofs.Compared.{same-run-true, other-part, other-changes}
 use Rattle.plan.proofs.Ahead.{ahead-on}
 

@@ -7,7 +7,7 @@ use native.Mathlib.Omega.{arith}
 use native.Mathlib.Nat.{sub-zero}
 use lib.ListN.{length, drop, take, getD, replicate}
 use Rattle.std.specs.shelf.Lists.{All}
-use Rattle.std.proofs.shelf.Lists.{drop-drop, length-push, getD-take, append-nil}
+use Rattle.std.proofs.shelf.Lists.{drop-drop, length-push, getD-take}
 use Rattle.change.specs.Change.{Change, line}
 use Rattle.change.specs.Records.{rows, table, written}
 use Rattle.change.proofs.Rows.{rows-append}

@@ -2,3 +2,4 @@ mod Ahead
 mod Among
 mod Kept
 mod Holding
+mod Storing

@@ -9,7 +9,8 @@ ghost use Rattle.run.specs.Layout.{most-running, most-verdicts};
 ghost use Rattle.run.specs.Numbers.{landed-in};
 ghost use Rattle.run.specs.Records.{row-of, run-width, verdict-width};
 ghost use Rattle.plan.specs.Plan.{still-known, still-running};
-ghost use Rattle.plan.specs.Rows.{Holds-runs, Holds-verdicts, Ready, running-now, useful-now, verdicts-now};
+ghost use Rattle.plan.specs.Numbers.{Ready, running-now, useful-now, verdicts-now};
+ghost use Rattle.plan.specs.Rows.{Holds-runs, Holds-verdicts};
 use super::useful::find_useful;
 use change::PARTS;
 use run::RUN_WIDTH;
@@ -19,26 +20,6 @@ use run::Run;
 use run::VERDICT_WIDTH;
 use run::VERDICTS_AT;
 use run::VERDICTS_COUNT;
-
-// Writes the verdict behind the first n records of a section.
-pub fn append_verdict(section: &mut [u64], n: usize, u: Run, good: bool)
-    requires { ⌜ verdict-width * (n + 1) ≤ length (now section) ⌝ }
-    ensures { λ _. ⌜ now (section .exit) ≡ written (verdict-width * n) (row-of u ++ cond good 1 0 ∷ []) (now (section .entry)) ⌝ }
-{
-    run::write_verdict(
-        &mut section[VERDICT_WIDTH * n..VERDICT_WIDTH * n + VERDICT_WIDTH],
-        u,
-        good,
-    );
-}
-
-// Writes the run behind the first n records of a section.
-pub fn append_run(section: &mut [u64], n: usize, u: Run)
-    requires { ⌜ run-width * (n + 1) ≤ length (now section) ⌝ }
-    ensures { λ _. ⌜ now (section .exit) ≡ written (run-width * n) (row-of u) (now (section .entry)) ⌝ }
-{
-    run::write_run(&mut section[RUN_WIDTH * n..RUN_WIDTH * n + RUN_WIDTH], u);
-}
 
 // Writes the verdicts that are still useful; says how many.
 pub fn keep_verdicts(queue: &[u64], tally: &[u64; PARTS], out: &mut [u64]) -> usize
@@ -81,4 +62,24 @@ pub fn keep_running(queue: &[u64], tally: &[u64; PARTS], out: &mut [u64]) -> usi
         }
     }
     found
+}
+
+// Writes the verdict behind the first n records of a section.
+fn append_verdict(section: &mut [u64], n: usize, u: Run, good: bool)
+    requires { ⌜ verdict-width * (n + 1) ≤ length (now section) ⌝ }
+    ensures { λ _. ⌜ now (section .exit) ≡ written (verdict-width * n) (row-of u ++ cond good 1 0 ∷ []) (now (section .entry)) ⌝ }
+{
+    run::write_verdict(
+        &mut section[VERDICT_WIDTH * n..VERDICT_WIDTH * n + VERDICT_WIDTH],
+        u,
+        good,
+    );
+}
+
+// Writes the run behind the first n records of a section.
+pub fn append_run(section: &mut [u64], n: usize, u: Run)
+    requires { ⌜ run-width * (n + 1) ≤ length (now section) ⌝ }
+    ensures { λ _. ⌜ now (section .exit) ≡ written (run-width * n) (row-of u) (now (section .entry)) ⌝ }
+{
+    run::write_run(&mut section[RUN_WIDTH * n..RUN_WIDTH * n + RUN_WIDTH], u);
 }

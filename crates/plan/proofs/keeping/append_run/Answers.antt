@@ -1,7 +1,6 @@
-use mathlib.Core.Path.{_≡_}
 use Prim.Native.Nat.{_+_, _*_}
 use native.Mathlib.Omega.{arith}
-use lib.ListN.{length, take}
+use lib.ListN.{take}
 use Rattle.change.proofs.Rows.{put-written, length-fixed}
 use Rattle.run.specs.Limits.{most-following}
 use Rattle.run.specs.Records.{row-of, run-width}

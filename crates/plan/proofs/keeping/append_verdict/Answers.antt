@@ -1,9 +1,8 @@
-use mathlib.Core.Path.{_≡_}
 use mathlib.Core.Bool.{cond}
 use mathlib.Core.List.{[], _∷_, _++_}
 use Prim.Native.Nat.{_+_, _*_}
 use native.Mathlib.Omega.{arith}
-use lib.ListN.{length, take}
+use lib.ListN.{take}
 use Rattle.std.proofs.shelf.Lists.{length-push}
 use Rattle.change.proofs.Rows.{put-written, length-fixed}
 use Rattle.run.specs.Limits.{most-following}

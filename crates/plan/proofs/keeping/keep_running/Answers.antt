@@ -1,19 +1,19 @@
 use mathlib.Core.Path.{_≡_, refl, ap, _∙_, sym}
-use mathlib.Core.Bool.{Bool, true, false, cond}
-use mathlib.Core.List.{List, _++_, [], _∷_}
-use Prim.Native.Nat.{ℕ, _+_, _-_, _*_, _≤_, _<_}
+use mathlib.Core.Bool.{true, false}
+use mathlib.Core.List.{List}
+use Prim.Native.Nat.{ℕ, _+_, _-_, _*_}
 use native.Mathlib.Omega.{arith}
 use lib.ListN.{length, drop, getD, length-replicate, length-drop}
 use Rattle.change.specs.Change.{Change}
 use Rattle.change.specs.Records.{table, written}
 use Rattle.change.proofs.Rows.{length-rows}
 use Rattle.run.specs.Run.{Run}
-use Rattle.run.specs.Records.{run-of, run-in, row-of, run-row, run-width, runs-in, Ahead}
+use Rattle.run.specs.Records.{run-of, run-in, run-row, run-width, runs-in, Ahead}
 use Rattle.run.specs.Layout.{running-at, running-count, most-running}
 use Rattle.run.specs.Numbers.{landed-in}
 use Rattle.run.proofs.Rows.{run-in-row, length-run-row}
-use Rattle.plan.specs.Plan.{among, still-running}
-use Rattle.plan.specs.Rows.{useful-now}
+use Rattle.plan.specs.Plan.{among}
+use Rattle.plan.specs.Numbers.{useful-now}
 use Rattle.plan.proofs.Among.{useful-ahead}
 use Rattle.plan.proofs.Kept.{keep-yes, keep-no, kept-held, table-none, stored-at}
 use Rattle.plan.proofs.keeping.keep_running.Needs as need

@@ -6,7 +6,7 @@ use Rattle.run.specs.Layout.{most-running, running-at}
 use Rattle.run.specs.Numbers.{landed-in}
 use Rattle.run.specs.Records.{run-row, run-width, runs-in}
 use Rattle.plan.specs.Plan.{still-running}
-use Rattle.plan.specs.Rows.{useful-now}
+use Rattle.plan.specs.Numbers.{useful-now}
 use Rattle.plan.proofs.keeping.keep_running.Given as given
 
 abbrev pub Inv-loop-k : given.InvT-loop-k

@@ -1,7 +1,7 @@
 use mathlib.Core.Path.{_≡_, refl, ap, _∙_, sym}
-use mathlib.Core.Bool.{Bool, true, false, cond}
+use mathlib.Core.Bool.{true, false, cond}
 use mathlib.Core.List.{List, _++_, [], _∷_}
-use Prim.Native.Nat.{ℕ, _+_, _-_, _*_, _≤_, _<_}
+use Prim.Native.Nat.{ℕ, _+_, _-_, _*_}
 use native.Mathlib.Omega.{arith}
 use lib.Dec.{eqb}
 use lib.ListN.{length, drop, getD, length-replicate, length-drop}
@@ -15,8 +15,8 @@ use Rattle.run.specs.declared.run.Run as declared
 use Rattle.run.specs.Layout.{verdicts-at, verdicts-count, most-verdicts}
 use Rattle.run.specs.Numbers.{landed-in}
 use Rattle.run.proofs.Rows.{run-in-row, length-verdict-row}
-use Rattle.plan.specs.Plan.{among, still-known}
-use Rattle.plan.specs.Rows.{useful-now}
+use Rattle.plan.specs.Plan.{among}
+use Rattle.plan.specs.Numbers.{useful-now}
 use Rattle.plan.proofs.Among.{useful-ahead}
 use Rattle.plan.proofs.Kept.{keep-yes, keep-no, kept-held, table-none, stored-at}
 use Rattle.plan.proofs.keeping.keep_verdicts.Needs as need

@@ -6,7 +6,7 @@ use Rattle.run.specs.Layout.{most-verdicts, verdicts-at}
 use Rattle.run.specs.Numbers.{landed-in}
 use Rattle.run.specs.Records.{verdict-row, verdict-width, verdicts-in}
 use Rattle.plan.specs.Plan.{still-known}
-use Rattle.plan.specs.Rows.{useful-now}
+use Rattle.plan.specs.Numbers.{useful-now}
 use Rattle.plan.proofs.keeping.keep_verdicts.Given as given
 
 abbrev pub Inv-loop-k : given.InvT-loop-k

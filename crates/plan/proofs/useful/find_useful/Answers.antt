@@ -1,12 +1,12 @@
 use mathlib.Core.Path.{_≡_, refl, ap, _∙_, sym}
-use mathlib.Core.Bool.{Bool, true, false}
-use mathlib.Core.List.{List, _++_, [], _∷_}
-use Prim.Native.Nat.{ℕ, _+_, _-_, _*_, _≤_, _<_, min}
+use mathlib.Core.Bool.{true, false}
+use mathlib.Core.List.{List, _++_}
+use Prim.Native.Nat.{ℕ, _+_, _-_, _*_}
 use native.Mathlib.Omega.{arith}
 use native.Mathlib.Nat.{sub-zero}
 use lib.ListN.{length, take, drop, getD}
 use Rattle.std.proofs.shelf.Lists.{append-nil}
-use Rattle.change.specs.Change.{Change, line, has}
+use Rattle.change.specs.Change.{Change, line}
 use Rattle.change.specs.Records.{change-in, change-of, change-width}
 use Rattle.change.proofs.Rows.{length-rows}
 use Rattle.change.proofs.Changes.{number-at}
@@ -17,7 +17,7 @@ use Rattle.run.specs.Numbers.{landed-in, waiting-in}
 use Rattle.run.proofs.Rows.{row-is}
 use Rattle.run.proofs.Compared.{run-long, same-run-true}
 use Rattle.plan.specs.Plan.{among, useful}
-use Rattle.plan.specs.Rows.{first-waiting, run-behind}
+use Rattle.plan.specs.Numbers.{first-waiting, run-behind}
 use Rattle.plan.proofs.Among.{short-useless, useful-all, look-on, look-found, among-none, among-not, among-yes, last-not, last-is}
 use Rattle.plan.proofs.useful.find_useful.Needs as need
 use Rattle.plan.proofs.useful.find_useful.Needs.{then-queue-i·then-touches·else-same-as, then-queue-i·else-touches, else-queue-i}

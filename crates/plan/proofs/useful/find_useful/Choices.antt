@@ -6,7 +6,7 @@ use Rattle.run.specs.Layout.{depth-at}
 use Rattle.run.specs.Numbers.{landed-in, waiting-in}
 use Rattle.run.specs.Records.{run-of}
 use Rattle.plan.specs.Plan.{among, useful}
-use Rattle.plan.specs.Rows.{useful-now}
+use Rattle.plan.specs.Numbers.{useful-now}
 use Rattle.plan.proofs.useful.find_useful.Given as given
 
 abbrev pub Inv-loop-i : given.InvT-loop-i

@@ -1,6 +1,6 @@
 use mathlib.Core.Path.{_≡_, refl, ap, _∙_, sym}
 use mathlib.Core.List.{List, [], _∷_, _++_}
-use Prim.Native.Nat.{ℕ, _+_, _<_}
+use Prim.Native.Nat.{ℕ, _+_}
 use native.Mathlib.Omega.{arith}
 use lib.ListN.{length, take, set, length-set}
 use lib.Seq.{take-length}
@@ -9,7 +9,7 @@ use Rattle.change.specs.Change.{Change, line}
 use Rattle.change.specs.Records.{change-of}
 use Rattle.run.specs.Layout.{waiting-at}
 use Rattle.run.specs.Numbers.{landed-in}
-use Rattle.plan.specs.Rows.{first-waiting}
+use Rattle.plan.specs.Numbers.{first-waiting}
 use Rattle.plan.proofs.Ahead.{next-yes, next-no, run-on-is}
 use Rattle.plan.proofs.useful.useful_run.Needs as need
 use Rattle.plan.proofs.useful.useful_run.Needs.{then-touches, else-touches}

@@ -3,7 +3,7 @@ use Prim.Native.Nat.{_≤_}
 use lib.ListN.{length, take}
 use Rattle.change.specs.Change.{line}
 use Rattle.run.specs.Limits.{most-following}
-use Rattle.plan.specs.Rows.{first-waiting}
+use Rattle.plan.specs.Numbers.{first-waiting}
 use Rattle.plan.proofs.useful.useful_run.Given as given
 
 abbrev pub Inv-loop-i : given.InvT-loop-i
