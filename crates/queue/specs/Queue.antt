@@ -9,7 +9,8 @@ use Rattle.change.specs.Change.{Change, numbered, dropped, without, fault}
 use Rattle.run.specs.Run.{Run}
 pub use Rattle.run.specs.State.{Config, Queue, empty}
 use Rattle.decide.specs.Decide.{Passed, pass}
-pub use Rattle.plan.specs.Plan.{useful-in, with-runs, planned}
+pub use Rattle.plan.specs.Plan.{useful-in, with-runs}
+unfoldable pub use Rattle.plan.specs.Plan.{planned}
 use Rattle.run.specs.Layout.{most-landed, most-waiting, most-rejected}
 
 -- a change is submitted; the change of a number is withdrawn; the run at a place among those running was good or bad
