@@ -1,11 +1,12 @@
 // Recording an event in the lent queue, once every check has let it pass.
 ghost use mathlib.Core.Path.{_≡_};
 ghost use Prim.Native.Nat.{_≤_, _<_};
+ghost use lib.ListN.{length, set};
 ghost use Rattle.change.specs.Change.{place-of};
 ghost use Rattle.change.specs.Records.{change-of};
 ghost use Rattle.queue.specs.Queue.{recorded, submit, withdraw, report};
 ghost use Rattle.queue.specs.Stages.{Roomy, Says, Sound};
-ghost use Rattle.run.specs.Layout.{most-verdicts};
+ghost use Rattle.run.specs.Layout.{most-verdicts, queue-length, running-count, verdicts-count};
 ghost use Rattle.run.specs.Numbers.{decode, waiting-in};
 ghost use Rattle.std.specs.declared.option.Option.the-variants.{Some};
 use super::counts::Counts;
@@ -62,6 +63,14 @@ pub fn record_report(queue: &mut [u64], counts: Counts, place: usize, good: bool
     );
     let running = &mut queue[RUNNING_AT..QUEUE_LENGTH];
     change::remove_record(running, RUN_WIDTH, counts.running, place);
-    queue[VERDICTS_COUNT] = counts.verdicts as u64 + 1;
-    queue[RUNNING_COUNT] = counts.running as u64 - 1;
+    count_runs(queue, counts.verdicts as u64 + 1, counts.running as u64 - 1);
+}
+
+// So many verdicts are held, and so many runs run.
+fn count_runs(queue: &mut [u64], verdicts: u64, running: u64)
+    requires { ⌜ queue-length ≤ length (now queue) ⌝ }
+    ensures { λ _. ⌜ now (queue .exit) ≡ set (set (now (queue .entry)) verdicts-count verdicts) running-count running ⌝ }
+{
+    queue[VERDICTS_COUNT] = verdicts;
+    queue[RUNNING_COUNT] = running;
 }

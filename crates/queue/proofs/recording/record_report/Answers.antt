@@ -8,7 +8,7 @@ use Rattle.run.specs.Layout.{running-at}
 use Rattle.run.specs.State.{Queue}
 use Rattle.run.specs.Numbers.{decode}
 use Rattle.queue.specs.Queue.{answered, recorded, report}
-use Rattle.queue.proofs.Recorded.{says-next}
+use Rattle.queue.proofs.Recorded.{says-next, says-same}
 use Rattle.queue.proofs.Reported.{says-reported}
 use Rattle.queue.proofs.recording.record_report.Needs as need
 
@@ -24,4 +24,4 @@ returns c =
     (said .settled) (sound .counted .verdicts) (sound .counted .running) (c .pre .few) (c .pre .there) (c .append-verdict .ensures) (c .remove-record .ensures)
     (λ landed. c .read-run-run .ensures .value landed ∙ ap (λ u. run-in landed (take u (drop at ys))) w)
     (c .read-run-run .ensures .part ∙ ap (λ u. getD (take u (drop at ys)) 0 0) w) (c .read-run-run .ensures .begins ∙ ap (λ u. getD (take u (drop at ys)) 1 0) w) in
-    says-next (c .args .queue .now) ys _ _ _ _ said next (ap (λ (q : Queue). answered q (c .args .place) (c .args .good)) (said .state))
+    says-next (c .args .queue .now) ys (c .count-runs .last .queue) _ _ _ said (says-same ys _ (c .count-runs .last .queue) _ next (c .count-runs .ensures)) (ap (λ (q : Queue). answered q (c .args .place) (c .args .good)) (said .state))
