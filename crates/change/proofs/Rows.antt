@@ -61,8 +61,9 @@ rows-local f w loc (suc n) xs ys le =
     let h : f (xs ++ ys) ≡ f xs = loc xs ys (omega arith) in
     rw (d, h) (ap (λ r. f xs ∷ r) (rows-local f w loc n (drop w xs) ys l))
 
-pub rows-take : {A : Type 0} (f : List ℕ → A) (w : ℕ) → Local f w → (n k : ℕ) (xs : List ℕ) → k ≡ w * n → k ≤ length xs → rows f w n (take k xs) ≡ rows f w n xs
-rows-take f w loc n k xs e le =
+-- n records are read from the front that holds them
+pub rows-take : {A : Type 0} (f : List ℕ → A) (w : ℕ) → Local f w → (n k : ℕ) (xs : List ℕ) → w * n ≤ k → k ≤ length xs → rows f w n (take k xs) ≡ rows f w n xs
+rows-take f w loc n k xs few le =
     sym (rows-local f w loc n (take k xs) (drop k xs) (omega (arith, length-take-le k xs le))) ∙ ap (rows f w n) (take-append-drop k xs)
 
 pub length-rows : {A : Type 0} (f : List ℕ → A) (w n : ℕ) (xs : List ℕ) → length (rows f w n xs) ≡ n
@@ -145,8 +146,8 @@ rows-out {A} f w loc n i xs lt le =
     let lB : length (take (w * m) (drop (w * (i + 1)) xs)) ≡ w * m = length-take-le (w * m) (drop (w * (i + 1)) xs) (omega arith) in
     let Z : List ℕ = replicate w 0 ++ drop (w * n) xs in
     let BZ : List ℕ = take (w * m) (drop (w * (i + 1)) xs) ++ Z in
-    let front : rows f w i (take (w * i) xs ++ BZ) ≡ rows f w i xs = rows-local f w loc i (take (w * i) xs) BZ (omega arith) ∙ rows-take f w loc i (w * i) xs refl (omega arith) in
-    let back : rows f w m BZ ≡ rows f w m (drop (w * (i + 1)) xs) = rows-local f w loc m (take (w * m) (drop (w * (i + 1)) xs)) Z (omega arith) ∙ rows-take f w loc m (w * m) (drop (w * (i + 1)) xs) refl (omega arith) in
+    let front : rows f w i (take (w * i) xs ++ BZ) ≡ rows f w i xs = rows-local f w loc i (take (w * i) xs) BZ (omega arith) ∙ rows-take f w loc i (w * i) xs (omega arith) (omega arith) in
+    let back : rows f w m BZ ≡ rows f w m (drop (w * (i + 1)) xs) = rows-local f w loc m (take (w * m) (drop (w * (i + 1)) xs)) Z (omega arith) ∙ rows-take f w loc m (w * m) (drop (w * (i + 1)) xs) (omega arith) (omega arith) in
     let seam : drop (w * i) (take (w * i) xs ++ BZ) ≡ BZ = drop-at (take (w * i) xs) BZ (w * i) lA in
     let left : rows f w (n - 1) (row-out w n i xs) ≡ rows f w i xs ++ rows f w m (drop (w * (i + 1)) xs) =
     ap (λ u. rows f w u (row-out w n i xs)) k1 ∙ (rows-append f w i m (take (w * i) xs ++ BZ) ∙ rw (seam, front, back)) in
@@ -162,7 +163,24 @@ pub rows-written : {A : Type 0} (f : List ℕ → A) (w : ℕ) → Local f w →
     rows f w (n + 1) (written k row xs) ≡ rows f w n xs ++ f row ∷ []
 rows-written f w loc n k row xs long e le =
     let l = length-take-le k xs (omega arith) in
-    let front : rows f w n (written k row xs) ≡ rows f w n xs = rows-local f w loc n (take k xs) (row ++ drop (k + length row) xs) (omega arith) ∙ rows-take f w loc n k xs e (omega arith) in
+    let front : rows f w n (written k row xs) ≡ rows f w n xs = rows-local f w loc n (take k xs) (row ++ drop (k + length row) xs) (omega arith) ∙ rows-take f w loc n k xs (omega arith) (omega arith) in
     let d : drop (w * n) (written k row xs) ≡ row ++ drop (k + length row) xs = drop-at (take k xs) (row ++ drop (k + length row) xs) (w * n) (omega arith) in
     let h : f (row ++ drop (k + length row) xs) ≡ f row = loc row (drop (k + length row) xs) (omega arith) in
     rows-append f w n 1 (written k row xs) ∙ rw (front, d, h)
+
+-- a row written over others, and one taken out, leave the length as it was
+pub length-written : (at : ℕ) (row xs : List ℕ) → at + length row ≤ length xs → length (written at row xs) ≡ length xs
+length-written at row xs fits =
+    length-append (take at xs) (row ++ drop (at + length row) xs)
+    ∙ omega (arith, length-take-le at xs (omega arith), length-append row (drop (at + length row) xs), length-drop (at + length row) xs)
+
+pub length-row-out : (w n i : ℕ) (xs : List ℕ) → i < n → w * n ≤ length xs → length (row-out w n i xs) ≡ length xs
+length-row-out w n i xs lt le =
+    let m : ℕ = n - (i + 1) in
+    let k : n ≡ i + (1 + m) = omega arith in
+    let whole : w * n ≡ w * i + (w + w * m) = ap (λ u. w * u) k ∙ omega (arith, mul-add w i (1 + m), mul-add w 1 m) in
+    let next : w * (i + 1) ≡ w * i + w = omega (arith, mul-add w i 1) in
+    let B : List ℕ = take (w * m) (drop (w * (i + 1)) xs) in
+    let Z : List ℕ = replicate w 0 ++ drop (w * n) xs in
+    length-append (take (w * i) xs) (B ++ Z)
+    ∙ omega (arith, length-take-le (w * i) xs (omega arith), length-append B Z, length-take-le (w * m) (drop (w * (i + 1)) xs) (omega (arith, length-drop (w * (i + 1)) xs)), length-append (replicate w 0) (drop (w * n) xs), length-replicate {A = ℕ} w 0, length-drop (w * n) xs)

@@ -5,24 +5,24 @@ use mathlib.Core.List.{List, [], _∷_, _++_}
 use mathlib.Core.Logic.{⊎-elim}
 use Prim.Native.Nat.{ℕ, zero, suc, _+_, _-_, _*_, _≤_, _<_, min}
 use native.Mathlib.Omega.{arith}
-use lib.Dec.{eqb}
 use lib.ListN.{length, getD, take, drop, length-append}
-use Rattle.std.proofs.shelf.Lists.{length-take-le, take-more, append-assoc, drop-all, take-at, drop-more, drop-drop, length-push, same-from-push}
-use Rattle.std.proofs.shelf.Tests.{eq-eqb, ne-eqb, and-right, and-left, cases-bool, cases-eq, cases-lt, or-right, false≢true}
+use Rattle.std.proofs.shelf.Lists.{take-more, append-assoc, append-nil, drop-all, take-at, drop-more, drop-drop, length-push, same-from-push}
+use Rattle.std.proofs.shelf.Tests.{eq-eqb, ne-eqb, cases-bool, cases-eq, cases-lt, or-right, false≢true}
 use Rattle.change.specs.Change.{Change, has, line}
 use Rattle.change.specs.Records.{change-in, change-width, rows}
 use Rattle.change.proofs.Rows.{rows-append, length-rows}
 use Rattle.change.proofs.Changes.{line-append, length-line-le}
 use Rattle.change.proofs.Tables.{getD-rows}
 use Rattle.run.specs.Limits.{most-following}
-use Rattle.run.specs.Run.{Run, same-list, same-run, run-on, runs-on}
+use Rattle.run.specs.Run.{Run, same-run, run-on, runs-on}
 use Rattle.run.specs.Records.{run-of, Ahead}
 use Rattle.run.specs.declared.run.Run as declared
-use Rattle.run.specs.Layout.{waiting-at}
+use Rattle.run.specs.Layout.{waiting-at, depth-at}
+use Rattle.run.specs.Numbers.{landed-in, waiting-in}
 use Rattle.plan.specs.Plan.{among, useful}
-use Rattle.plan.specs.Rows.{first-waiting}
-use Rattle.plan.proofs.Same.{same-list-not}
-use Rattle.plan.proofs.Ahead.{same-run-eq, ahead-on}
+use Rattle.plan.specs.Numbers.{first-waiting, useful-now, Ready}
+use Rattle.run.proofs.Compared.{same-run-true, other-part, other-changes}
+use Rattle.plan.proofs.Ahead.{ahead-on}
 
 among-parts : (r : Run) (xs ys : List Run) → among r (xs ++ ys) ≡ (among r xs || among r ys)
 among-parts r [] ys = refl
@@ -37,21 +37,21 @@ among-append r b xs ys e = among-parts r xs ys ∙ ap (λ u. u || among r ys) e
 
 -- a run among those of a change: only the one of its own part can be it
 module _ (r : Run) (before : List Change) (n : ℕ) where
-  other-part : (p : ℕ) → (p ≡ r .part → ⊥) → same-run r (run-on before n p) ≡ false
-  other-part p ne = and-left (eqb (r .part) p) (same-list (r .changes) (line p before ++ n ∷ [])) (ne-eqb (r .part) p (λ e. ne (sym e)))
+  not-this : (p : ℕ) → (p ≡ r .part → ⊥) → same-run r (run-on before n p) ≡ false
+  not-this p ne = sym (other-part r (run-on before n p) (λ e. ne (sym e)))
 
   pub among-none : (ps : List ℕ) → has ps (r .part) ≡ false → among r (runs-on before n ps) ≡ false
   among-none [] h = refl
   among-none (p ∷ ps) h = ⊎-elim
       (λ e. absurd (false≢true (sym h ∙ ap (λ u. u || has ps (r .part)) (eq-eqb p (r .part) e))))
-      (λ ne. ap (λ u. u || among r (runs-on before n ps)) (other-part p ne) ∙ among-none ps (sym (ap (λ u. u || has ps (r .part)) (ne-eqb p (r .part) ne)) ∙ h))
+      (λ ne. ap (λ u. u || among r (runs-on before n ps)) (not-this p ne) ∙ among-none ps (sym (ap (λ u. u || has ps (r .part)) (ne-eqb p (r .part) ne)) ∙ h))
       (cases-eq p (r .part))
 
   pub among-not : (ps : List ℕ) → same-run r (run-on before n (r .part)) ≡ false → among r (runs-on before n ps) ≡ false
   among-not [] h = refl
   among-not (p ∷ ps) h = ⊎-elim
       (λ e. ap (λ u. u || among r (runs-on before n ps)) (ap (λ q. same-run r (run-on before n q)) e ∙ h) ∙ among-not ps h)
-      (λ ne. ap (λ u. u || among r (runs-on before n ps)) (other-part p ne) ∙ among-not ps h)
+      (λ ne. ap (λ u. u || among r (runs-on before n ps)) (not-this p ne) ∙ among-not ps h)
       (cases-eq p (r .part))
 
   pub among-yes : (ps : List ℕ) → has ps (r .part) ≡ true → same-run r (run-on before n (r .part)) ≡ true → among r (runs-on before n ps) ≡ true
@@ -63,13 +63,11 @@ module _ (r : Run) (before : List Change) (n : ℕ) where
 
   -- it is not one that ends with another number
   pub last-not : (ys : List ℕ) (m : ℕ) → r .changes ≡ ys ++ m ∷ [] → (n ≡ m → ⊥) → same-run r (run-on before n (r .part)) ≡ false
-  last-not ys m e ne = and-right (eqb (r .part) (r .part)) (same-list (r .changes) (line (r .part) before ++ n ∷ []))
-      (same-list-not (r .changes) (line (r .part) before ++ n ∷ []) (λ q. ne (sym (same-from-push ys (line (r .part) before) m n (sym e ∙ q) .1))))
+  last-not ys m e ne = sym (other-changes r (run-on before n (r .part)) (λ q. ne (sym (same-from-push ys (line (r .part) before) m n (sym e ∙ q) .1))))
 
   -- it is not one that is longer
   short-not : length (r .changes) ≤ length (line (r .part) before) → same-run r (run-on before n (r .part)) ≡ false
-  short-not le = and-right (eqb (r .part) (r .part)) (same-list (r .changes) (line (r .part) before ++ n ∷ []))
-      (same-list-not (r .changes) (line (r .part) before ++ n ∷ []) (λ q. omega (arith, ap length q, length-push (line (r .part) before) n)))
+  short-not le = sym (other-changes r (run-on before n (r .part)) (λ q. omega (arith, ap length q, length-push (line (r .part) before) n)))
 
 -- a run that has no more than what landed is not useful
 pub short-useless : (r : Run) (d : ℕ) (before ws : List Change) → length (r .changes) ≤ length (line (r .part) before) → among r (useful d before ws) ≡ false
@@ -144,10 +142,10 @@ ahead-runs r cs vs n [] lt e = absurd (false≢true e)
 ahead-runs r cs vs n (p ∷ ps) lt e = go (λ h. ahead-runs r cs vs n ps lt h) (same-run r (run-on (cs ++ vs) n p)) refl
   where
     go : (among r (runs-on (cs ++ vs) n ps) ≡ true → Ahead cs r) → (b : Bool) → same-run r (run-on (cs ++ vs) n p) ≡ b → Ahead cs r
-    go ih true h = subst (Ahead cs) (sym (same-run-eq r (run-on (cs ++ vs) n p) h)) (ahead-on cs vs n p (omega (arith, length-line-le p vs)))
+    go ih true h = subst (Ahead cs) (sym (same-run-true r (run-on (cs ++ vs) n p) h)) (ahead-on cs vs n p (omega (arith, length-line-le p vs)))
     go ih false h = ih (sym (ap (λ u. u || among r (runs-on (cs ++ vs) n ps)) h) ∙ e)
 
-pub ahead-useful : (r : Run) (d : ℕ) (cs vs ws : List Change) → length vs + d ≤ most-following → among r (useful d (cs ++ vs) ws) ≡ true → Ahead cs r
+ahead-useful : (r : Run) (d : ℕ) (cs vs ws : List Change) → length vs + d ≤ most-following → among r (useful d (cs ++ vs) ws) ≡ true → Ahead cs r
 unfolding useful
 ahead-useful r zero cs vs ws le e = absurd (false≢true e)
 ahead-useful r (suc d) cs vs [] le e = absurd (false≢true e)
@@ -157,3 +155,7 @@ ahead-useful r (suc d) cs vs (c ∷ ws) le e =
     (λ h. ahead-useful r d cs (vs ++ c ∷ []) ws (omega (arith, length-push vs c))
     (ap (λ l. among r (useful d l ws)) (sym (append-assoc cs vs (c ∷ []))) ∙ (sym (ap (λ u. u || among r (useful d ((cs ++ vs) ++ c ∷ []) ws)) h) ∙ f)))
     (cases-bool (among r (runs-on (cs ++ vs) (c .number) (c .parts))))
+
+pub useful-ahead : (xs ts : List ℕ) (r : Run) → Ready xs ts → among r (useful-now xs) ≡ true → Ahead (landed-in xs) r
+useful-ahead xs ts r h e =
+    ahead-useful r (getD xs depth-at 0) (landed-in xs) [] (waiting-in xs) (omega (arith, h .depth)) (ap (λ l. among r (useful (getD xs depth-at 0) l (waiting-in xs))) (append-nil (landed-in xs)) ∙ e)

@@ -12,15 +12,14 @@ use Rattle.std.proofs.shelf.Lists.{append-assoc, take-at, drop-at, length-push,
 use Rattle.std.proofs.shelf.Elements.{all-push}
 use Rattle.std.proofs.shelf.Tests.{cond-both, le-ltb, ltb-true, and-parts}
 use Rattle.change.specs.Change.{Change}
-use Rattle.change.specs.Records.{rows, table, written}
-use Rattle.change.proofs.Tables.{table-push, table-is, rows-table, length-table}
+use Rattle.change.specs.Records.{rows, written}
+use Rattle.change.proofs.Tables.{table-push, table-is, rows-table}
 use Rattle.run.specs.Run.{Run, Verdict, same-run, heard, is-unknown, run-on, runs-on}
-use Rattle.run.specs.declared.known.Known.{Known}
-use Rattle.run.specs.declared.known.Known.the-variants.{Nothing, Good, Bad}
-use Rattle.run.specs.Records.{run-width, verdict-width, run-in, verdict-in, run-row, verdict-row, Ahead, Ahead-verdict}
+use Rattle.run.specs.declared.known.Known.the-variants.{Good, Bad}
+use Rattle.run.specs.Records.{run-width, verdict-width, run-row, verdict-row, Ahead, Ahead-verdict}
 use Rattle.run.specs.Layout.{most-running, most-verdicts, most-benches}
 use Rattle.run.proofs.Rows.{length-run-row, length-verdict-row}
-use Rattle.run.proofs.Round.{Records, run-records, verdict-records}
+use Rattle.run.proofs.Round.{Records}
 use Rattle.plan.specs.Plan.{among, lacks, request}
 use Rattle.plan.specs.Rows.{has-row, run-rows, lacks-row, Holds, Holds-runs, Holds-verdicts}
 use Rattle.plan.proofs.Ahead.{row-same}

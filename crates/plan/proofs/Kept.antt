@@ -7,7 +7,7 @@ use native.Mathlib.Omega.{arith}
 use native.Mathlib.Nat.{sub-zero}
 use lib.ListN.{length, drop, take, getD, replicate}
 use Rattle.std.specs.shelf.Lists.{All}
-use Rattle.std.proofs.shelf.Lists.{drop-drop, length-push, getD-take, append-nil}
+use Rattle.std.proofs.shelf.Lists.{drop-drop, length-push, getD-take}
 use Rattle.change.specs.Change.{Change, line}
 use Rattle.change.specs.Records.{rows, table, written}
 use Rattle.change.proofs.Rows.{rows-append}
@@ -16,6 +16,7 @@ use Rattle.run.specs.Records.{run-width}
 use Rattle.run.specs.Numbers.{Begins}
 use Rattle.run.specs.declared.run.Run as declared
 use Rattle.plan.specs.Plan.{kept}
+use Rattle.plan.specs.Rows.{Holds}
 
 module _ {A : Type 0} (t : A → Bool) where
   -- one more, kept or not
@@ -31,7 +32,7 @@ module _ {A : Type 0} (t : A → Bool) where
   kept-no [] x e = ap (λ b. cond b (x ∷ []) []) e
   kept-no (y ∷ ys) x e = ap (λ l. cond (t y) (y ∷ l) l) (kept-no ys x e)
 
-  pub all-kept : (P : A → Type 0) → ((x : A) → t x ≡ true → P x) → (xs : List A) → All P (kept t xs)
+  all-kept : (P : A → Type 0) → ((x : A) → t x ≡ true → P x) → (xs : List A) → All P (kept t xs)
   all-kept P h [] = tt
   all-kept P h (x ∷ xs) = go (all-kept P h xs) (t x) refl
     where
@@ -39,7 +40,7 @@ module _ {A : Type 0} (t : A → Bool) where
       go ih true e = (h x e, ih)
       go ih false e = ih
 
-  pub length-kept : (xs : List A) → length (kept t xs) ≤ length xs
+  length-kept : (xs : List A) → length (kept t xs) ≤ length xs
   length-kept [] = omega arith
   length-kept (x ∷ xs) = go (length-kept xs) (t x)
     where
@@ -65,6 +66,11 @@ module _ {A : Type 0} (f : List ℕ → A) (row : A → List ℕ) (w n : ℕ) (l
 
   pub keep-no : t x ≡ false → so-far (k + 1) ≡ so-far k
   keep-no e = ap (kept t) more ∙ kept-no t (rows f w k (drop base xs)) x e
+
+-- what is kept and written to a section of 0 is held there
+pub kept-held : {A : Type 0} (row : A → List ℕ) (P : A → Type 0) (w most n : ℕ) (t : A → Bool) → ((x : A) → t x ≡ true → P x) → (xs : List ℕ) (ys : List A) → length ys ≤ most →
+    xs ≡ table row (w * most) (kept t ys) → n ≡ length (kept t ys) → Holds row P w most n xs (kept t ys)
+kept-held row P w most n t h xs ys few e f = record { is = e; all = all-kept t P h ys; count = f; few = omega (arith, f, length-kept t ys) }
 
 pub table-none : {A : Type 0} (row : A → List ℕ) (n : ℕ) → replicate n 0 ≡ table row n []
 unfolding table

@@ -1,4 +1,5 @@
 pub mod Searches
 pub mod Recorded
+pub mod Reported
 pub mod Replies
 pub mod Opened

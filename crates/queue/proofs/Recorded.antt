@@ -168,6 +168,9 @@ dropped-waiting n ws i m e count few =
 pub says-next : (xs ys zs : List ℕ) (p q r : Queue) → Says xs p ys → Says ys q zs → q ≡ r → Says xs r zs
 says-next xs ys zs p q r a b e = record { settled = b .settled; state = b .state ∙ e; config = b .config ∙ a .config; behind = b .behind ∙ a .behind }
 
+pub says-same : (xs ys zs : List ℕ) (q : Queue) → Says xs q ys → zs ≡ ys → Says xs q zs
+says-same xs ys zs q a e = subst (λ (l : List ℕ). Says xs q l) (sym e) a
+
 -- those that wait are written over, and then their count
 pub says-waiting : (ys zs : List ℕ) (W : List Change) (n : ℕ) → Settled ys → Fitting (landed-in ys) W (rejected-in ys) →
     (sections ys .waiting ≡ changes-section most-waiting (waiting-in ys) → zs ≡ changes-section most-waiting W) → n ≡ length W →

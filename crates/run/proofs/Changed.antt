@@ -14,7 +14,6 @@ use Rattle.change.specs.Records.{change-in, change-row, change-width, changes-i
 use Rattle.change.proofs.Rows.{length-rows, rows-same}
 use Rattle.change.proofs.Changes.{length-change-row, line-append}
 use Rattle.change.proofs.Tables.{length-table}
-use Rattle.run.specs.Run.{Run, Verdict}
 use Rattle.run.specs.Records.{run-in, verdict-in, verdicts-in, run-width, verdict-width, runs-in}
 use Rattle.run.specs.Limits.{most-following}
 use Rattle.run.specs.Layout.{most-landed, most-waiting, most-rejected, most-verdicts, most-running, benches-at, depth-at, landed-count, waiting-count, rejected-count, verdicts-count, running-count, requested-at, landed-at, waiting-at, rejected-at, verdicts-at, running-at, queue-length}

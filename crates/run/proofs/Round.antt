@@ -12,7 +12,7 @@ use Rattle.std.proofs.shelf.Lists.{length-take-le}
 use Rattle.std.proofs.shelf.Counted.{fill-by-all}
 use Rattle.change.specs.Change.{Change}
 use Rattle.change.specs.Records.{rows, table, change-in, change-row, change-width}
-use Rattle.change.proofs.Rows.{Local, rows-append, rows-local, length-rows}
+use Rattle.change.proofs.Rows.{Local, rows-append, rows-take, length-rows}
 use Rattle.change.proofs.Changes.{length-change-row, read-row, change-in-local}
 use Rattle.change.proofs.Tables.{joined-push, table-is, length-table, rows-table}
 use Rattle.run.specs.Records.{run-in, runs-in, run-row, run-width, verdict-in, verdicts-in, verdict-row, verdict-width, Ahead, Ahead-verdict}
@@ -40,7 +40,7 @@ run-records landed = record { local = run-in-local landed; long = length-run-row
 module _ {A : Type 0} {f : List ℕ → A} {row : A → List ℕ} {w : ℕ} {P : A → Type 0} (r : Records f row w P) where
   -- rows are read from their section as from all that stands from it on
   pub rows-section : (n m : ℕ) (xs : List ℕ) → w * n ≤ m → m ≤ length xs → rows f w n (take m xs) ≡ rows f w n xs
-  rows-section n m xs few long = sym (rows-local f w (r .local) n (take m xs) (drop m xs) (omega (arith, length-take-le m xs long))) ∙ ap (rows f w n) (take-append-drop m xs)
+  rows-section n m xs few long = rows-take f w (r .local) n m xs few long
 
   -- what was written in a section is read back
   pub read-section : (m : ℕ) (xs : List ℕ) (ys : List A) → take m xs ≡ table row m ys → w * length ys ≤ m → All P ys → rows f w (length ys) xs ≡ ys

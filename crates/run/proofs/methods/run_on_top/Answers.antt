@@ -1,10 +1,9 @@
-use mathlib.Core.Path.{_≡_, refl, ap, _∙_}
+use mathlib.Core.Path.{refl, ap, _∙_}
 use mathlib.Core.List.{List, [], _∷_, _++_}
 use Prim.Native.Nat.{ℕ}
 use lib.ListN.{take}
 use lib.Seq.{take-length}
 use Rattle.change.specs.Change.{line}
-use Rattle.run.specs.Run.{run-on}
 use Rattle.run.proofs.methods.run_on_top.Needs as need
 
 pub returns : need.returns

@@ -1,6 +1,6 @@
 use native.Mathlib.Omega.{arith}
-use mathlib.Core.Path.{_≡_, refl}
-use Prim.Native.Nat.{_≤_, min}
+use mathlib.Core.Path.{refl}
+use Prim.Native.Nat.{min}
 use lib.ListN.{getD, drop}
 use Rattle.std.proofs.shelf.Lists.{take-take}
 use Rattle.run.proofs.records.read_run.Needs as need

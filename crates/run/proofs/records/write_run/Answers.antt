@@ -1,8 +1,8 @@
-use mathlib.Core.Path.{_≡_, ap, _∙_, sym}
+use mathlib.Core.Path.{_≡_, ap, _∙_}
 use mathlib.Core.List.{List, [], _∷_, _++_}
 use Prim.Native.Nat.{ℕ}
 use native.Mathlib.Omega.{arith}
-use lib.ListN.{length, set, drop}
+use lib.ListN.{length, set}
 use Rattle.std.proofs.shelf.Lists.{drop-all, append-nil}
 use borrow.Rule.Slice.PartMut.{putMid}
 use Rattle.run.proofs.records.write_run.Needs as need

@@ -2,7 +2,7 @@ use mathlib.Core.Path.{_≡_, ap, _∙_, sym}
 use mathlib.Core.List.{List}
 use Prim.Native.Nat.{ℕ, _<_}
 use native.Mathlib.Omega.{arith}
-use lib.ListN.{take, drop, length, getD}
+use lib.ListN.{take, drop, getD}
 use Rattle.std.proofs.shelf.Lists.{take-more-same, getD-take, getD-drop, length-drop}
 use Rattle.run.specs.Run.{same-list}
 use Rattle.run.proofs.Compared.{same-list-refl, same-list-not}

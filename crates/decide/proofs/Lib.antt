@@ -1,0 +1,3 @@
+mod Moves
+mod Turns
+mod Looks

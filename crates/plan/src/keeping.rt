@@ -1,0 +1,85 @@
+// What stays of verdicts and running runs: those that are still useful, written anew into a section of 0.
+ghost use mathlib.Core.Path.{_≡_};
+ghost use mathlib.Core.Bool.{cond};
+ghost use mathlib.Core.List.{[], _∷_, _++_};
+ghost use Prim.Native.Nat.{_+_, _*_, _≤_};
+ghost use lib.ListN.{length, replicate};
+ghost use Rattle.change.specs.Records.{written};
+ghost use Rattle.run.specs.Layout.{most-running, most-verdicts};
+ghost use Rattle.run.specs.Numbers.{landed-in};
+ghost use Rattle.run.specs.Records.{row-of, run-width, verdict-width};
+ghost use Rattle.plan.specs.Plan.{still-known, still-running};
+ghost use Rattle.plan.specs.Numbers.{Ready, running-now, useful-now, verdicts-now};
+ghost use Rattle.plan.specs.Rows.{Holds-runs, Holds-verdicts};
+use super::useful::find_useful;
+use change::PARTS;
+use run::RUN_WIDTH;
+use run::RUNNING_AT;
+use run::RUNNING_COUNT;
+use run::Run;
+use run::VERDICT_WIDTH;
+use run::VERDICTS_AT;
+use run::VERDICTS_COUNT;
+
+// Writes the verdicts that are still useful; says how many.
+pub fn keep_verdicts(queue: &[u64], tally: &[u64; PARTS], out: &mut [u64]) -> usize
+    requires ready { ⌜ Ready (now queue) (now tally) ⌝ }
+    requires zero { ⌜ now out ≡ replicate (verdict-width * most-verdicts) 0 ⌝ }
+    ensures { λ r. ⌜ Holds-verdicts (landed-in (now (queue .entry))) r (now (out .exit)) (still-known (useful-now (now (queue .entry))) (verdicts-now (now (queue .entry)))) ⌝ }
+{
+    let mut found = 0usize;
+    for k in 0..queue[VERDICTS_COUNT] as usize {
+        let at = VERDICTS_AT + VERDICT_WIDTH * k;
+        let stored = run::read_run(&queue[at..at + VERDICT_WIDTH]);
+        let good = queue[at + RUN_WIDTH] == 1;
+        match find_useful(queue, tally, stored) {
+            Some(u) => {
+                append_verdict(out, found, u, good);
+                found += 1;
+            }
+            None => {}
+        }
+    }
+    found
+}
+
+// Writes the running runs that are still useful; says how many.
+pub fn keep_running(queue: &[u64], tally: &[u64; PARTS], out: &mut [u64]) -> usize
+    requires ready { ⌜ Ready (now queue) (now tally) ⌝ }
+    requires zero { ⌜ now out ≡ replicate (run-width * most-running) 0 ⌝ }
+    ensures { λ r. ⌜ Holds-runs (landed-in (now (queue .entry))) r (now (out .exit)) (still-running (useful-now (now (queue .entry))) (running-now (now (queue .entry)))) ⌝ }
+{
+    let mut found = 0usize;
+    for k in 0..queue[RUNNING_COUNT] as usize {
+        let at = RUNNING_AT + RUN_WIDTH * k;
+        let stored = run::read_run(&queue[at..at + RUN_WIDTH]);
+        match find_useful(queue, tally, stored) {
+            Some(u) => {
+                append_run(out, found, u);
+                found += 1;
+            }
+            None => {}
+        }
+    }
+    found
+}
+
+// Writes the verdict behind the first n records of a section.
+fn append_verdict(section: &mut [u64], n: usize, u: Run, good: bool)
+    requires { ⌜ verdict-width * (n + 1) ≤ length (now section) ⌝ }
+    ensures { λ _. ⌜ now (section .exit) ≡ written (verdict-width * n) (row-of u ++ cond good 1 0 ∷ []) (now (section .entry)) ⌝ }
+{
+    run::write_verdict(
+        &mut section[VERDICT_WIDTH * n..VERDICT_WIDTH * n + VERDICT_WIDTH],
+        u,
+        good,
+    );
+}
+
+// Writes the run behind the first n records of a section.
+pub fn append_run(section: &mut [u64], n: usize, u: Run)
+    requires { ⌜ run-width * (n + 1) ≤ length (now section) ⌝ }
+    ensures { λ _. ⌜ now (section .exit) ≡ written (run-width * n) (row-of u) (now (section .entry)) ⌝ }
+{
+    run::write_run(&mut section[RUN_WIDTH * n..RUN_WIDTH * n + RUN_WIDTH], u);
+}
