@@ -18,22 +18,16 @@ pub struct Decided {
     pub rejected: Vec<Change>,
 }
 
-// The part's line, then one number more: the changes of the run that decides about it.
-pub fn line_then(
-    heap: Global,
-    landed: &[Change],
-    part: u64,
-    number: u64,
-) -> Result<Vec<u64>, AllocError>
-    ensures { λ r. ⌜ made r (λ v. vec-items v ≡ line part (map change-of (now (landed .entry))) ++ number ∷ []) ⌝ }
+// The part's line: the numbers of the changes that touch it, in order.
+pub fn line_of(heap: Global, changes: &[Change], part: u64) -> Result<Vec<u64>, AllocError>
+    ensures { λ r. ⌜ made r (λ v. vec-items v ≡ line part (map change-of (now (changes .entry)))) ⌝ }
 {
     let mut numbers = Vec::new(heap);
-    for c in landed {
+    for c in changes {
         if c.touches(part) {
             numbers.push(c.number)?;
         }
     }
-    numbers.push(number)?;
     Ok(numbers)
 }
 
@@ -47,7 +41,8 @@ pub fn passes<B: Bench>(
     ensures { λ r. ⌜ made r (λ b. b ≡ passes-over (says (now (bench .entry))) (map change-of (now (landed .entry))) (change-of c)) ⌝ }
 {
     for i in 0..c.count as usize {
-        let numbers = line_then(heap, landed, c.parts[i], c.number)?;
+        let mut numbers = line_of(heap, landed, c.parts[i])?;
+        numbers.push(c.number)?;
         if !bench.good(c.parts[i], numbers.as_slice()) {
             return Ok(false);
         }

@@ -5,5 +5,5 @@ mod landing;
 pub use bench::Bench;
 pub use landing::Decided;
 pub use landing::decide_serially;
-pub use landing::line_then;
+pub use landing::line_of;
 pub use landing::passes;

@@ -4,7 +4,7 @@ use lib.ListN.{drop}
 use Rattle.std.specs.Of.Vec.{vec-items}
 use Rattle.change.specs.Change.{line}
 use Rattle.change.specs.Records.{change-of}
-use Rattle.serial.proofs.landing.line_then.Given as given
+use Rattle.serial.proofs.landing.line_of.Given as given
 
 abbrev pub Inv-loop-c : given.InvT-loop-c
-Inv-loop-c l = vec-items (l .numbers) ++ line (l .part) (map change-of (drop (l .c-index) (l .landed))) ≡ line (l .part) (map change-of (l .landed))
+Inv-loop-c l = vec-items (l .numbers) ++ line (l .part) (map change-of (drop (l .c-index) (l .changes))) ≡ line (l .part) (map change-of (l .changes))
