@@ -11,10 +11,14 @@ use Rattle.change.specs.Records.{change-of}
 use Rattle.change.specs.declared.change.Change as declared
 use Rattle.serial.specs.Serial.{Bench, passes, passes-on, serial-landed, serial-rejected}
 
--- the changes from the i-th on: that one, and the others
+-- what is made of the elements from the i-th on: what is made of that one, and of the others
+pub mapped-more : {X Y : Type 0} (f : X → Y) (xs : List X) (i : ℕ) (x : X) → i < length xs → x ≡ getD xs i x → map f (drop i xs) ≡ f x ∷ map f (drop (i + 1) xs)
+mapped-more f xs i x lt is = ap (map f) (drop-more xs i x lt ∙ ap (λ y. y ∷ drop (i + 1) xs) (sym is))
+
+-- the changes from the i-th on
 module _ (xs : List declared.Change) (i : ℕ) (x : declared.Change) (lt : i < length xs) (is : x ≡ getD xs i x) where
-  pub changes-more : map change-of (drop i xs) ≡ change-of x ∷ map change-of (drop (i + 1) xs)
-  changes-more = ap (map change-of) (drop-more xs i x lt ∙ ap (λ y. y ∷ drop (i + 1) xs) (sym is))
+  changes-more : map change-of (drop i xs) ≡ change-of x ∷ map change-of (drop (i + 1) xs)
+  changes-more = mapped-more change-of xs i x lt is
 
   -- the line of a part goes on with a change that touches it, and with no other
   pub line-touched : (p : ℕ) → has (change-of x .parts) p ≡ true → line p (map change-of (drop i xs)) ≡ x .number ∷ line p (map change-of (drop (i + 1) xs))
