@@ -15,17 +15,18 @@ use Rattle.std.specs.declared.option.Option.the-variants.{Some, None}
 use Rattle.std.proofs.shelf.Lists.{drop-at, take-append-drop, drop-drop, getD-drop, getD-append-left}
 use Rattle.queue.specs.declared.reply.Refusal.{Refusal}
 use Rattle.queue.specs.declared.reply.Refusal.the-variants.{Malformed}
-use Rattle.queue.proofs.Round.{decode-encode, sized-of}
-use Rattle.queue.proofs.Sections.{Sized, sections-whole}
+use Rattle.run.proofs.Round.{decode-encode, sized-of}
+use Rattle.run.proofs.Sections.{Sized, sections-whole}
 use Rattle.change.proofs.Changes.{length-change-row}
 use Rattle.run.proofs.Rows.{length-run-row, length-verdict-row}
 use Rattle.change.specs.Change.{most-parts, Change, line}
 use Rattle.change.specs.Records.{change-width, change-row, table}
+use Rattle.run.specs.Limits.{most-following}
 use Rattle.run.specs.Run.{Run, Verdict}
-use Rattle.run.specs.Records.{most-following, run-width, verdict-width, run-row, verdict-row, Ahead, Ahead-verdict}
-use Rattle.queue.specs.Layout.{most-landed, most-waiting, most-rejected, most-verdicts, most-running, landed-count, waiting-count, rejected-count, verdicts-count, running-count, requested-at, landed-at, waiting-at, rejected-at, verdicts-at, running-at, queue-length}
-use Rattle.queue.specs.Queue.{Config, Queue}
-use Rattle.queue.specs.Numbers.{Sections, sections, whole, config-in, landed-in, decode, changes-section, sections-of, encode, Small, Fits}
+use Rattle.run.specs.Records.{run-width, verdict-width, run-row, verdict-row, Ahead, Ahead-verdict}
+use Rattle.run.specs.Layout.{most-landed, most-waiting, most-rejected, most-verdicts, most-running, landed-count, waiting-count, rejected-count, verdicts-count, running-count, requested-at, landed-at, waiting-at, rejected-at, verdicts-at, running-at, queue-length}
+use Rattle.run.specs.State.{Config, Queue}
+use Rattle.run.specs.Numbers.{Sections, sections, whole, config-in, landed-in, decode, changes-section, sections-of, encode, Small, Fits}
 use Rattle.queue.specs.Refusals.{Check, then, unless, length-check, count-check, counts-check, over, changes-check, following-check, records-check, sums-check, overlong, begins-check, runs-check, queue-check}
 use Rattle.queue.specs.WorkedDay.{row}
 

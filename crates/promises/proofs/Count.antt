@@ -13,9 +13,10 @@ use Rattle.run.specs.declared.known.Known.{Known}
 use Rattle.run.specs.declared.known.Known.the-variants.{Nothing, Good, Bad}
 use Rattle.change.specs.Change.{most-parts, Change, numbered, without}
 use Rattle.run.specs.Run.{Run, Verdict, heard, is-good, is-unknown, runs-on}
+use Rattle.run.specs.State.{Config, Queue, empty}
 use Rattle.decide.specs.Decide.{all-good}
 use Rattle.plan.specs.Plan.{useful, among, kept, still-running}
-use Rattle.queue.specs.Queue.{Config, Queue, empty, Event, submit, withdraw, report, accepts, recorded, decided, useful-in, planned, step, replayed}
+use Rattle.queue.specs.Queue.{Event, submit, withdraw, report, accepts, recorded, decided, useful-in, planned, step, replayed}
 use Rattle.promises.specs.Day.{Log, blank, withdrawn-by, new-runs, with-event, logged, held, Different, parts-in}
 use Rattle.promises.specs.Promises.{Each-run-once, Waste-bounded}
 use Rattle.promises.proofs.Basics.{clash, not-so, neither-right, both-left, both-right, numbered-push, kept-all}

@@ -4,7 +4,8 @@ use mathlib.Core.Bool.{Bool, true, false, cond, _&&_}
 use mathlib.Core.List.{List, [], _∷_, _++_}
 use Rattle.std.proofs.shelf.Tests.{not-true}
 use Rattle.change.specs.Change.{Change}
-use Rattle.queue.specs.Queue.{Config, Queue, empty, Event, submit, used, fresh, proper, roomy, accepts, step, after, replayed}
+use Rattle.run.specs.State.{Config, Queue, empty}
+use Rattle.queue.specs.Queue.{Event, submit, used, fresh, proper, roomy, accepts, step, after, replayed}
 use Rattle.promises.specs.Day.{Log, blank, with-event, log}
 use Rattle.promises.proofs.Basics.{both-left}
 

@@ -12,8 +12,9 @@ use Rattle.std.specs.shelf.Lists.{All}
 use Rattle.std.proofs.shelf.Lists.{length-push, length-map}
 use Rattle.change.specs.Change.{most-parts, Change, numbered, dropped, without}
 use Rattle.run.specs.Run.{Run, Verdict}
+use Rattle.run.specs.State.{Config, Queue, empty}
 use Rattle.plan.specs.Plan.{useful, among, still-known}
-use Rattle.queue.specs.Queue.{Config, Queue, empty, Event, submit, withdraw, report, accepts, no-run, recorded, decided, useful-in, planned, step, after, replayed}
+use Rattle.queue.specs.Queue.{Event, submit, withdraw, report, accepts, no-run, recorded, decided, useful-in, planned, step, after, replayed}
 use Rattle.queue.specs.WorkedDay.{run}
 use Rattle.promises.specs.Day.{held, measure, Not-submit, All-taken}
 use Rattle.promises.specs.Promises.{Progress}

@@ -4,8 +4,9 @@ use mathlib.Core.List.{List, [], _∷_, _++_, append-nil, append-assoc}
 use lib.ListN.{length, take}
 use Rattle.std.proofs.shelf.Lists.{take-at}
 use Rattle.change.specs.Change.{Change, line, numbered}
+use Rattle.run.specs.State.{Config, Queue, empty}
 use Rattle.serial.specs.Serial.{serial-landed, serial-rejected}
-use Rattle.queue.specs.Queue.{Config, Queue, empty, Event, submit, withdraw, report, recorded, decided, planned, step, replayed}
+use Rattle.queue.specs.Queue.{Event, submit, withdraw, report, recorded, decided, planned, step, replayed}
 use Rattle.promises.specs.Day.{logged, not-waiting}
 use Rattle.promises.specs.Promises.{Config-independent, Decisions-final}
 use Rattle.promises.proofs.Pass.{pass-all}

@@ -14,8 +14,9 @@ use Rattle.std.proofs.shelf.Lists.{length-push, map-push}
 use Rattle.run.specs.declared.known.Known.the-variants.{Good, Bad}
 use Rattle.change.specs.Change.{Change, numbered, dropped, without}
 use Rattle.run.specs.Run.{Run, Verdict, same-run, heard, is-unknown}
+use Rattle.run.specs.State.{Config, Queue, empty}
 use Rattle.plan.specs.Plan.{useful, among, kept, still-running, still-known, lacks, request}
-use Rattle.queue.specs.Queue.{Config, Queue, empty, Event, submit, withdraw, report, used, fresh, proper, roomy, accepts, no-run, answered, recorded, decided, useful-in, planned, step, after, replayed}
+use Rattle.queue.specs.Queue.{Event, submit, withdraw, report, used, fresh, proper, roomy, accepts, no-run, answered, recorded, decided, useful-in, planned, step, after, replayed}
 use Rattle.queue.specs.WorkedDay.{run}
 use Rattle.promises.specs.Day.{held, Different}
 use Rattle.promises.specs.Promises.{Only-useful-runs}

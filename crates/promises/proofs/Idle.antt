@@ -12,9 +12,10 @@ use Rattle.run.specs.declared.known.Known.{Known}
 use Rattle.run.specs.declared.known.Known.the-variants.{Nothing, Good, Bad}
 use Rattle.change.specs.Change.{Change, has, share}
 use Rattle.run.specs.Run.{Run, Verdict, same-run, heard, is-good, is-bad, is-unknown, run-on, runs-on}
+use Rattle.run.specs.State.{Config, Queue, empty}
 use Rattle.decide.specs.Decide.{any-bad, all-good, shares-any, pass}
 use Rattle.plan.specs.Plan.{useful, among, still-running, still-known}
-use Rattle.queue.specs.Queue.{Config, Queue, empty, Event, recorded, decided, useful-in, planned, step, replayed}
+use Rattle.queue.specs.Queue.{Event, recorded, decided, useful-in, planned, step, replayed}
 use Rattle.queue.specs.WorkedDay.{run}
 use Rattle.promises.specs.Day.{held}
 use Rattle.promises.specs.Promises.{Never-idle, Fully-booked, Decided-when-known}

@@ -16,12 +16,14 @@ use Rattle.queue.specs.declared.reply.Reply.{Reply}
 use Rattle.queue.specs.declared.reply.Reply.the-variants.{Done}
 use Rattle.queue.specs.declared.reply.Refusal.{Refusal}
 use Rattle.queue.specs.declared.reply.Refusal.the-variants.{Benches, Depth, NumberUsed, Parts, NotWaiting, NotRunning, WaitingFull, LandedFull, RejectedFull, VerdictsFull, RequestsSpent}
-use Rattle.queue.proofs.Round.{decode-encode}
+use Rattle.run.proofs.Round.{decode-encode}
 use Rattle.change.specs.Change.{most-parts, Change, numbered, fault}
 use Rattle.change.specs.Records.{change-in}
-use Rattle.queue.specs.Layout.{most-landed, most-waiting, most-rejected, most-verdicts, most-benches, most-depth, number-limit, benches-at, depth-at, landed-count, waiting-count, rejected-count, verdicts-count, running-count, requested-at, queue-length, event-length}
-use Rattle.queue.specs.Queue.{Config, Queue, empty, Event, submit, used, fresh, proper, roomy, accepts, step, after, replayed}
-use Rattle.queue.specs.Numbers.{config-in, landed-in, waiting-in, rejected-in, decode, encode, event-by, event-in, Fits}
+use Rattle.run.specs.Layout.{most-landed, most-waiting, most-rejected, most-verdicts, most-benches, most-depth, number-limit, benches-at, depth-at, landed-count, waiting-count, rejected-count, verdicts-count, running-count, requested-at, queue-length, event-length}
+use Rattle.run.specs.State.{Config, Queue, empty}
+use Rattle.run.specs.Numbers.{config-in, landed-in, waiting-in, rejected-in, decode, encode, Fits}
+use Rattle.queue.specs.Queue.{Event, submit, used, fresh, proper, roomy, accepts, step, after, replayed}
+use Rattle.queue.specs.Events.{event-by, event-in}
 use Rattle.queue.specs.Refusals.{Check, then, unless, length-check, queue-check, benches-check, depth-check, event-check, number-check, parts-check, waits-check, place-check, room-check, verdicts-check, requests-check, kind-check, report-kind, front-check, refusal}
 use Rattle.queue.specs.Entry.{unless-refused, config, opened, stepped-to, stepped}
 use Rattle.promises.specs.Day.{logged}

@@ -11,9 +11,10 @@ use Rattle.std.proofs.shelf.Elements.{all-push}
 use Rattle.change.proofs.Changes.{line-append}
 use Rattle.change.specs.Change.{Change, has, line}
 use Rattle.run.specs.Run.{Run, Verdict, same-run}
+use Rattle.run.specs.State.{Config, Queue, empty}
 use Rattle.serial.specs.Serial.{Bench, passes-on, passes}
 use Rattle.plan.specs.Plan.{among}
-use Rattle.queue.specs.Queue.{Config, Queue, empty, Event, submit, withdraw, report, no-run, recorded, decided, useful-in, planned, step, replayed}
+use Rattle.queue.specs.Queue.{Event, submit, withdraw, report, no-run, recorded, decided, useful-in, planned, step, replayed}
 use Rattle.queue.specs.WorkedDay.{run}
 use Rattle.promises.specs.Day.{blank, reported-by, logged, said-good}
 use Rattle.promises.specs.Promises.{Every-state-tested}

@@ -16,7 +16,7 @@ use Rattle.change.specs.Change.{part-limit, most-parts, Change, has, line, numb
 use Rattle.run.specs.Run.{Run, same-run, run-on, runs-on}
 use Rattle.plan.specs.Plan.{useful, among}
 use Rattle.queue.specs.Queue.{proper}
-use Rattle.promises.specs.Day.{Different, parts-in, Begins}
+use Rattle.promises.specs.Day.{Different, parts-in, Ahead-by}
 use Rattle.promises.proofs.Basics.{clash, not-so, neither-left, neither-right, both-left, both-right, Off, off-sym, line-off, has-head, has-tail}
 use Rattle.promises.proofs.Serial.{Alike, alike-push, off-swap, Apart}
 use Rattle.promises.proofs.Pass.{same-run-is}
@@ -183,22 +183,22 @@ useful-parts (suc n) [] xs = omega arith
 useful-parts (suc n) (w ∷ ws) xs = omega (arith, length-append (runs-on xs (w .number) (w .parts)) (useful n (xs ++ w ∷ []) ws), length-runs-on xs (w .number) (w .parts), useful-parts n ws (xs ++ w ∷ []))
 
 -- a useful run is its part's whole landed line, and then no more changes than are looked at
-run-begins : (L : List Change) (k : ℕ) (pre : List Change) (n p : ℕ) → length pre < k → Begins L k (run-on (L ++ pre) n p)
+run-begins : (L : List Change) (k : ℕ) (pre : List Change) (n p : ℕ) → length pre < k → Ahead-by L k (run-on (L ++ pre) n p)
 run-begins L k pre n p l = record {
   following = line p pre ++ n ∷ [];
   is = ap (λ (w : List ℕ). w ++ n ∷ []) (line-append p L pre) ∙ append-assoc (line p L) (line p pre) (n ∷ []);
   few = omega (arith, length-append (line p pre) (n ∷ []), length-line-le p pre);
 }
 
-runs-begin : (L : List Change) (k : ℕ) (pre : List Change) (n : ℕ) (ps : List ℕ) → length pre < k → (r : Run) → among r (runs-on (L ++ pre) n ps) ≡ true → Begins L k r
+runs-begin : (L : List Change) (k : ℕ) (pre : List Change) (n : ℕ) (ps : List ℕ) → length pre < k → (r : Run) → among r (runs-on (L ++ pre) n ps) ≡ true → Ahead-by L k r
 runs-begin L k pre n [] l r e = absurd (true≢false (sym e))
 runs-begin L k pre n (p ∷ ps) l r e = go (runs-begin L k pre n ps l r) (same-run r (run-on (L ++ pre) n p)) refl e
   where
-    go : (among r (runs-on (L ++ pre) n ps) ≡ true → Begins L k r) → (b : Bool) → same-run r (run-on (L ++ pre) n p) ≡ b → (b || among r (runs-on (L ++ pre) n ps)) ≡ true → Begins L k r
-    go ih true j h = subst (Begins L k) (sym (same-run-is r (run-on (L ++ pre) n p) j)) (run-begins L k pre n p l)
+    go : (among r (runs-on (L ++ pre) n ps) ≡ true → Ahead-by L k r) → (b : Bool) → same-run r (run-on (L ++ pre) n p) ≡ b → (b || among r (runs-on (L ++ pre) n ps)) ≡ true → Ahead-by L k r
+    go ih true j h = subst (Ahead-by L k) (sym (same-run-is r (run-on (L ++ pre) n p) j)) (run-begins L k pre n p l)
     go ih false j h = ih h
 
-useful-begin-from : (L : List Change) (k n : ℕ) (cs pre : List Change) → length pre + n ≤ k → (r : Run) → among r (useful n (L ++ pre) cs) ≡ true → Begins L k r
+useful-begin-from : (L : List Change) (k n : ℕ) (cs pre : List Change) → length pre + n ≤ k → (r : Run) → among r (useful n (L ++ pre) cs) ≡ true → Ahead-by L k r
 unfolding useful
 useful-begin-from L k zero cs pre l r e = absurd (true≢false (sym e))
 useful-begin-from L k (suc n) [] pre l r e = absurd (true≢false (sym e))
@@ -207,5 +207,5 @@ useful-begin-from L k (suc n) (c ∷ cs) pre l r e = elim (among-cases r (runs-o
   | inr j ↦ useful-begin-from L k n cs (pre ++ c ∷ []) (omega (arith, length-append pre (c ∷ []))) r (ap (λ (b : List Change). among r (useful n b cs)) (sym (append-assoc L pre (c ∷ []))) ∙ j)
 ]
 
-pub useful-begin : (n : ℕ) (L W : List Change) (r : Run) → among r (useful n L W) ≡ true → Begins L n r
+pub useful-begin : (n : ℕ) (L W : List Change) (r : Run) → among r (useful n L W) ≡ true → Ahead-by L n r
 useful-begin n L W r e = useful-begin-from L n n W [] (omega arith) r (ap (λ (b : List Change). among r (useful n b W)) (append-nil L) ∙ e)

@@ -8,10 +8,12 @@ use lib.ListN.{length, getD, drop}
 use Rattle.queue.specs.declared.reply.Reply.{Reply}
 use Rattle.queue.specs.declared.reply.Reply.the-variants.{Done, Refused}
 use Rattle.change.specs.Change.{most-parts}
+use Rattle.run.specs.Layout.{number-limit, queue-length, event-length}
+use Rattle.run.specs.State.{Config, Queue, empty}
+use Rattle.run.specs.Numbers.{decode, encode}
 use Rattle.serial.specs.Serial.{Bench}
-use Rattle.queue.specs.Layout.{number-limit, queue-length, event-length}
-use Rattle.queue.specs.Queue.{Config, Queue, empty, Event, accepts, after, replayed}
-use Rattle.queue.specs.Numbers.{decode, encode, event-in}
+use Rattle.queue.specs.Queue.{Event, accepts, after, replayed}
+use Rattle.queue.specs.Events.{event-in}
 use Rattle.queue.specs.Refusals.{report-kind}
 use Rattle.queue.specs.Entry.{config, opened, stepped}
 use Rattle.promises.specs.Day.{logged, Truthful}

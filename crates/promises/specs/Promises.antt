@@ -8,13 +8,14 @@ use Rattle.std.specs.shelf.Lists.{All}
 use Rattle.run.specs.declared.known.Known.the-variants.{Nothing}
 use Rattle.change.specs.Change.{most-parts, Change, has, line}
 use Rattle.run.specs.Run.{Verdict, heard, run-on, runs-on}
+use Rattle.run.specs.Layout.{most-landed, most-waiting, most-rejected, most-verdicts, most-benches, most-depth}
+use Rattle.run.specs.State.{Config, Queue, empty}
+use Rattle.run.specs.Numbers.{Fits}
 use Rattle.serial.specs.Serial.{Bench, serial-landed, serial-rejected}
 use Rattle.decide.specs.Decide.{any-bad, shares-any}
 use Rattle.plan.specs.Plan.{among}
-use Rattle.queue.specs.Layout.{most-landed, most-waiting, most-rejected, most-verdicts, most-benches, most-depth}
-use Rattle.queue.specs.Queue.{Config, Queue, empty, Event, accepts, useful-in, after, replayed}
-use Rattle.queue.specs.Numbers.{Fits}
-use Rattle.promises.specs.Day.{Log, logged, Truthful, said-good, not-waiting, Same-decisions, held, Different, parts-in, Begins, measure, Not-submit, All-taken}
+use Rattle.queue.specs.Queue.{Event, accepts, useful-in, after, replayed}
+use Rattle.promises.specs.Day.{Log, logged, Truthful, said-good, not-waiting, Same-decisions, held, Different, parts-in, Ahead-by, measure, Not-submit, All-taken}
 
 -- THE MAIN PROMISE. If every report that is taken is what the bench says, then the decisions are those of serial testing: take the changes that were
 -- submitted and not withdrawn, in the order of their arrival, less those that still wait, and test them one at a time. On every part the same changes
@@ -112,7 +113,7 @@ Verdicts-fit =
     (t : Config) (es : List Event) →
     let q = replayed t empty es in
     (length (q .verdicts) + length (q .running) ≤ most-parts * t .depth)
-    × All (Begins (q .landed) (t .depth)) (held q)
+    × All (Ahead-by (q .landed) (t .depth)) (held q)
     × (length (q .landed) ≤ most-landed) × (length (q .waiting) ≤ most-waiting) × (length (q .rejected) ≤ most-rejected)
     × (t .depth ≤ most-depth → (length (q .verdicts) < most-verdicts) × (t .benches ≤ most-benches → Fits q))
 

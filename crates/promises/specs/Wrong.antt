@@ -10,10 +10,11 @@ use Rattle.decide.specs.declared.decision.Decision.{Decision}
 use Rattle.decide.specs.declared.decision.Decision.the-variants.{Wait, Land, Reject}
 use Rattle.change.specs.Change.{Change, has, line, numbered}
 use Rattle.run.specs.Run.{Run, Verdict, same-list, runs-on}
+use Rattle.run.specs.State.{Config, Queue, empty}
 use Rattle.serial.specs.Serial.{Bench, serial-landed}
 use Rattle.decide.specs.Decide.{any-bad, all-good, decision-by, shares-any, decision, by-decision, Passed}
 use Rattle.plan.specs.Plan.{useful, among, kept, still-running, request}
-use Rattle.queue.specs.Queue.{Config, Queue, empty, Event, submit, report, accepts, recorded, with-passed, useful-in, with-runs, step}
+use Rattle.queue.specs.Queue.{Event, submit, report, accepts, recorded, with-passed, useful-in, with-runs, step}
 use Rattle.queue.specs.WorkedDay.{change, run}
 use Rattle.promises.specs.Day.{arrivals-with, reported-by, Truthful, said-good, not-waiting, held}
 

@@ -1,6 +1,7 @@
-pub mod Layout
+pub use Rattle.run.specs.Layout
+pub use Rattle.run.specs.Numbers
 pub mod Queue
-pub mod Numbers
+pub mod Events
 pub mod Counted
 pub mod Refusals
 pub mod Entry

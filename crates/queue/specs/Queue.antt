@@ -1,4 +1,4 @@
--- The merge queue on records: its state, its events, and the step. Assumes nothing: these are definitions.
+-- The merge queue on records: its events, and the step. Assumes nothing: these are definitions.
 use mathlib.Core.Bool.{Bool, true, false, cond, _||_, _&&_, not}
 use mathlib.Core.List.{List, [], _∷_, _++_}
 use Prim.Native.Nat.{ℕ, _+_, _-_}
@@ -7,25 +7,10 @@ use lib.ListN.{length, getD}
 use Rattle.std.specs.Options.{isSome}
 use Rattle.change.specs.Change.{Change, numbered, dropped, without, fault}
 use Rattle.run.specs.Run.{Run, Verdict}
+pub use Rattle.run.specs.State.{Config, Queue, empty}
 use Rattle.decide.specs.Decide.{Passed, pass}
 use Rattle.plan.specs.Plan.{useful, still-running, still-known, request}
-use Rattle.queue.specs.Layout.{most-landed, most-waiting, most-rejected}
-
--- how many runs run at once, and how many of those that wait are looked at
-pub record Config : Type 0 where
-  pub benches : ℕ
-  pub depth : ℕ
-
-pub record Queue : Type 0 where
-  pub landed : List Change
-  pub waiting : List Change  -- in the order of their arrival
-  pub rejected : List Change
-  pub verdicts : List Verdict  -- those that are still useful
-  pub running : List Run  -- in the order of their request
-  pub requested : ℕ  -- how many runs were requested in all
-
-abbrev pub empty : Queue
-empty = record { landed = []; waiting = []; rejected = []; verdicts = []; running = []; requested = 0 }
+use Rattle.run.specs.Layout.{most-landed, most-waiting, most-rejected}
 
 -- a change is submitted; the change of a number is withdrawn; the run at a place among those running was good or bad
 pub data Event : Type 0 where

@@ -2,24 +2,24 @@
 ghost use mathlib.Core.Path.{_≡_};
 ghost use Prim.Native.Nat.{_+_, _*_, _≤_, _<_};
 ghost use lib.ListN.{length, getD, drop};
-ghost use Rattle.change.specs.Change.{place-of};
+ghost use Rattle.change.specs.Change.{most-parts, place-of};
 ghost use Rattle.change.specs.Records.{Tallies, change-in, change-of, change-width, changes-in};
+ghost use Rattle.run.specs.Limits.{most-following};
+ghost use Rattle.std.specs.Options.{mapped};
 ghost use Rattle.queue.specs.Counted.{Counted, kind-number};
-ghost use Rattle.queue.specs.Layout.{event-length, landed-at, most-waiting, queue-length, requested-at};
-ghost use Rattle.queue.specs.Numbers.{waiting-in};
+ghost use Rattle.run.specs.Layout.{event-length, landed-at, most-waiting, queue-length, requested-at};
+ghost use Rattle.run.specs.Numbers.{waiting-in};
 ghost use Rattle.queue.specs.Refusals.{Hands, benches-check, check-of, count-check, counts-check, depth-check, event-check, length-check, number-check, over, overlong, parts-check, records-check, requests-check, room-check, runs-check, sums-check, waits-check, withdraw-kind};
+ghost use Rattle.queue.specs.declared.reply.Refusal.the-variants.{Malformed};
 ghost use Rattle.std.specs.declared.option.Option.the-variants.{Some};
 use super::counts::Counts;
 use super::kind::Kind;
-use super::layout::*;
 use super::reply::Refusal;
 use change::CHANGE_WIDTH;
 use change::Change;
 use change::MOST_PARTS;
 use change::PARTS;
-use run::MOST_FOLLOWING;
-use run::RUN_WIDTH;
-use run::VERDICT_WIDTH;
+use run::*;
 
 // The slice is long enough for a queue.
 pub fn check_length(queue: &[u64]) -> Result<usize, Refusal>
@@ -91,6 +91,31 @@ fn first_over(
     None
 }
 
+// None of the n changes from `base` on has too many parts.
+fn check_changes(queue: &[u64], base: usize, n: usize) -> Result<usize, Refusal>
+    requires { ⌜ base + change-width * n ≤ length (now queue) ⌝ }
+    ensures says { λ r. ⌜ check-of r ≡ mapped Malformed (over change-width 1 most-parts n base (now (queue .entry))) ⌝ }
+    ensures hands { λ r. ⌜ Hands r (λ m. m ≡ n) ⌝ }
+{
+    match first_over(queue, base, CHANGE_WIDTH, 1, MOST_PARTS, n) {
+        Some(at) => Err(Refusal::Malformed(at as u64)),
+        None => Ok(n),
+    }
+}
+
+// None of the n runs in records from `base` on has too many changes that follow.
+fn check_following(queue: &[u64], base: usize, width: usize, n: usize) -> Result<usize, Refusal>
+    requires fits { ⌜ base + width * n ≤ length (now queue) ⌝ }
+    requires wide { ⌜ 2 < width ⌝ }
+    ensures says { λ r. ⌜ check-of r ≡ mapped Malformed (over width 2 most-following n base (now (queue .entry))) ⌝ }
+    ensures hands { λ r. ⌜ Hands r (λ m. m ≡ n) ⌝ }
+{
+    match first_over(queue, base, width, 2, MOST_FOLLOWING, n) {
+        Some(at) => Err(Refusal::Malformed(at as u64)),
+        None => Ok(n),
+    }
+}
+
 // No change has too many parts, and no run too many changes that follow.
 pub fn check_records(queue: &[u64], counts: Counts) -> Result<Counts, Refusal>
     requires long { ⌜ queue-length ≤ length (now queue) ⌝ }
@@ -98,49 +123,11 @@ pub fn check_records(queue: &[u64], counts: Counts) -> Result<Counts, Refusal>
     ensures says { λ r. ⌜ check-of r ≡ records-check (now (queue .entry)) ⌝ }
     ensures hands { λ r. ⌜ Hands r (λ n. n ≡ counts) ⌝ }
 {
-    if let Some(at) = first_over(queue, LANDED_AT, CHANGE_WIDTH, 1, MOST_PARTS, counts.landed) {
-        return Err(Refusal::Malformed(at as u64));
-    }
-    if let Some(at) = first_over(
-        queue,
-        WAITING_AT,
-        CHANGE_WIDTH,
-        1,
-        MOST_PARTS,
-        counts.waiting,
-    ) {
-        return Err(Refusal::Malformed(at as u64));
-    }
-    if let Some(at) = first_over(
-        queue,
-        REJECTED_AT,
-        CHANGE_WIDTH,
-        1,
-        MOST_PARTS,
-        counts.rejected,
-    ) {
-        return Err(Refusal::Malformed(at as u64));
-    }
-    if let Some(at) = first_over(
-        queue,
-        VERDICTS_AT,
-        VERDICT_WIDTH,
-        2,
-        MOST_FOLLOWING,
-        counts.verdicts,
-    ) {
-        return Err(Refusal::Malformed(at as u64));
-    }
-    if let Some(at) = first_over(
-        queue,
-        RUNNING_AT,
-        RUN_WIDTH,
-        2,
-        MOST_FOLLOWING,
-        counts.running,
-    ) {
-        return Err(Refusal::Malformed(at as u64));
-    }
+    let _landed = check_changes(queue, LANDED_AT, counts.landed)?;
+    let _waiting = check_changes(queue, WAITING_AT, counts.waiting)?;
+    let _rejected = check_changes(queue, REJECTED_AT, counts.rejected)?;
+    let _verdicts = check_following(queue, VERDICTS_AT, VERDICT_WIDTH, counts.verdicts)?;
+    let _running = check_following(queue, RUNNING_AT, RUN_WIDTH, counts.running)?;
     Ok(counts)
 }
 
@@ -192,25 +179,14 @@ pub fn check_runs(queue: &[u64], counts: Counts) -> Result<Counts, Refusal>
     ensures says { λ r. ⌜ check-of r ≡ runs-check (now (queue .entry)) ⌝ }
     ensures hands { λ r. ⌜ Hands r (λ n. n ≡ counts) ⌝ }
 {
-    let tally = change::tally_parts(queue, LANDED_AT, counts.landed);
-    if let Some(at) = first_overlong(
-        queue,
-        &tally,
-        counts.landed,
-        VERDICTS_AT,
-        VERDICT_WIDTH,
-        counts.verdicts,
-    ) {
+    let landed = counts.landed;
+    let tally = change::tally_parts(queue, LANDED_AT, landed);
+    let held = counts.verdicts;
+    if let Some(at) = first_overlong(queue, &tally, landed, VERDICTS_AT, VERDICT_WIDTH, held) {
         return Err(Refusal::Malformed(at as u64));
     }
-    if let Some(at) = first_overlong(
-        queue,
-        &tally,
-        counts.landed,
-        RUNNING_AT,
-        RUN_WIDTH,
-        counts.running,
-    ) {
+    let running = counts.running;
+    if let Some(at) = first_overlong(queue, &tally, landed, RUNNING_AT, RUN_WIDTH, running) {
         return Err(Refusal::Malformed(at as u64));
     }
     Ok(counts)

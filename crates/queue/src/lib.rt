@@ -4,7 +4,6 @@ mod counts;
 mod entry;
 mod kind;
 mod laws;
-mod layout;
 mod recording;
 mod reply;
 
@@ -13,6 +12,5 @@ pub use entry::open;
 pub use laws::decode_of_encode;
 pub use laws::encode_of_decode;
 pub use laws::worked_day;
-pub use layout::numbers_of_layout;
 pub use reply::Refusal;
 pub use reply::Reply;

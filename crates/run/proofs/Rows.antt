@@ -12,7 +12,8 @@ use Rattle.change.specs.Change.{Change, line}
 use Rattle.change.specs.Records.{fixed}
 use Rattle.change.proofs.Rows.{Local, length-fixed, take-fixed}
 use Rattle.run.specs.Run.{Run, Verdict}
-use Rattle.run.specs.Records.{most-following, run-width, verdict-width, run-in, verdict-in, run-row, verdict-row, Ahead, Ahead-verdict}
+use Rattle.run.specs.Records.{run-width, verdict-width, run-in, verdict-in, run-row, verdict-row, Ahead, Ahead-verdict}
+use Rattle.run.specs.Limits.{most-following}
 
 module _ (landed : List Change) where
   pub length-run-row : (r : Run) → length (run-row landed r) ≡ run-width

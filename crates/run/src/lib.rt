@@ -1,8 +1,35 @@
 // Runs and verdicts, and what is known of a run.
 mod known;
+mod layout;
 mod records;
+mod run;
 
 pub use known::Known;
-pub use records::MOST_FOLLOWING;
+pub use layout::BENCHES_AT;
+pub use layout::DEPTH_AT;
+pub use layout::EVENT_LENGTH;
+pub use layout::LANDED_AT;
+pub use layout::LANDED_COUNT;
+pub use layout::MOST_BENCHES;
+pub use layout::MOST_DEPTH;
+pub use layout::MOST_LANDED;
+pub use layout::MOST_REJECTED;
+pub use layout::MOST_RUNNING;
+pub use layout::MOST_VERDICTS;
+pub use layout::MOST_WAITING;
+pub use layout::NUMBER_LIMIT;
+pub use layout::QUEUE_LENGTH;
+pub use layout::REJECTED_AT;
+pub use layout::REJECTED_COUNT;
+pub use layout::REQUESTED_AT;
+pub use layout::RUNNING_AT;
+pub use layout::RUNNING_COUNT;
+pub use layout::VERDICTS_AT;
+pub use layout::VERDICTS_COUNT;
+pub use layout::WAITING_AT;
+pub use layout::WAITING_COUNT;
+pub use layout::numbers_of_layout;
 pub use records::RUN_WIDTH;
 pub use records::VERDICT_WIDTH;
+pub use run::MOST_FOLLOWING;
+pub use run::Run;

@@ -1,8 +1,5 @@
 // Runs and verdicts as records of the lent queue.
 
-// A run goes on with at most so many changes behind the landed ones.
-pub const MOST_FOLLOWING: usize = 16;
-
 // A run's record: its part, how many of the part's landed changes it begins with, how many follow, and room for these.
 pub const RUN_WIDTH: usize = 19;
 
