@@ -66,7 +66,8 @@ module _ {A : Type 0} (row : A → List ℕ) (w : ℕ) (long : (x : A) → lengt
   field-at i l = sym (getD-drop at xs i 0) ∙ ap (λ (ys : List ℕ). getD ys i 0) here ∙ getD-append-left (row c) (joined row cs ++ h .0) 0 i (omega (arith, l, long c))
 
 -- no count is too large
-over-none : {A : Type 0} (P : A → Type 0) (row : A → List ℕ) (w field most : ℕ) → ((x : A) → length (row x) ≡ w) → field < w → ((x : A) → P x → getD (row x) field 0 ≤ most) →
+over-none : {A : Type 0} (P : A → Type 0) (row : A → List ℕ) (w field most : ℕ) → ((x : A) → length (row x) ≡ w) → field < w →
+    ((x : A) → P x → getD (row x) field 0 ≤ most) →
     (cs : List A) → All P cs → (at : ℕ) (xs : List ℕ) → From row cs at xs → over w field most (length cs) at xs ≡ None
 over-none P row w field most long l k [] a at xs h = refl
 over-none P row w field most long l k (c ∷ cs) a at xs h =
@@ -74,7 +75,8 @@ over-none P row w field most long l k (c ∷ cs) a at xs h =
     ∙ over-none P row w field most long l k cs (a .1) (at + w) xs (next row w long c cs at xs h)
 
 -- no run begins with more than has landed
-overlong-none : {A : Type 0} (landed : List Change) (row : A → List ℕ) (w : ℕ) → ((x : A) → length (row x) ≡ w) → 1 < w → ((x : A) → getD (row x) 1 0 ≡ length (line (getD (row x) 0 0) landed)) →
+overlong-none : {A : Type 0} (landed : List Change) (row : A → List ℕ) (w : ℕ) → ((x : A) → length (row x) ≡ w) → 1 < w →
+    ((x : A) → getD (row x) 1 0 ≡ length (line (getD (row x) 0 0) landed)) →
     (cs : List A) (at : ℕ) (xs : List ℕ) → From row cs at xs → overlong landed w (length cs) at xs ≡ None
 overlong-none landed row w long l k [] at xs h = refl
 overlong-none landed row w long l k (c ∷ cs) at xs h =
@@ -156,13 +158,15 @@ says-encode t q behind f =
     }
 
 -- no change has too many parts
-changes-checked : (cs : List Change) (count at most : ℕ) (xs : List ℕ) → All Small cs → getD xs count 0 ≡ length cs → take (change-width * most) (drop at xs) ≡ changes-section most cs → changes-check count at xs ≡ None
+changes-checked : (cs : List Change) (count at most : ℕ) (xs : List ℕ) → All Small cs → getD xs count 0 ≡ length cs →
+    take (change-width * most) (drop at xs) ≡ changes-section most cs → changes-check count at xs ≡ None
 changes-checked cs count at most xs a n e = mapped-from Malformed (over change-width 1 most-parts (getD xs count 0) at xs)
     (ap (λ (k : ℕ). over change-width 1 most-parts k at xs) n
     ∙ over-none Small change-row change-width 1 most-parts length-change-row (omega arith) (λ c s. s) cs a at xs (from-section change-row (change-width * most) cs at xs e))
 
 -- so none of the checks of a queue refuses
-pub queue-checked : (t : Config) (q : Queue) (behind xs : List ℕ) → Fits q → length (q .landed) + length (q .waiting) ≤ most-landed → length (q .rejected) + length (q .waiting) ≤ most-rejected → Says t q behind xs →
+pub queue-checked : (t : Config) (q : Queue) (behind xs : List ℕ) → Fits q → length (q .landed) + length (q .waiting) ≤ most-landed →
+    length (q .rejected) + length (q .waiting) ≤ most-rejected → Says t q behind xs →
     queue-check xs ≡ None
 unfolding decode
 queue-checked t q behind xs f lw bw s =

@@ -21,7 +21,8 @@ unfolding pass-under pass
 pass-own vs held landed rejected [] = refl
 pass-own vs held landed rejected (c ∷ cs) = go (decision vs held landed c) (pass-own vs (held ++ c ∷ []) landed rejected cs) (pass-own vs held (landed ++ c ∷ []) rejected cs) (pass-own vs held landed (rejected ++ c ∷ []) cs)
   where
-    go : (d : Decision) → pass-under own vs (held ++ c ∷ []) landed rejected cs ≡ pass vs (held ++ c ∷ []) landed rejected cs → pass-under own vs held (landed ++ c ∷ []) rejected cs ≡ pass vs held (landed ++ c ∷ []) rejected cs →
+    go : (d : Decision) → pass-under own vs (held ++ c ∷ []) landed rejected cs ≡ pass vs (held ++ c ∷ []) landed rejected cs →
+        pass-under own vs held (landed ++ c ∷ []) rejected cs ≡ pass vs held (landed ++ c ∷ []) rejected cs →
         pass-under own vs held landed (rejected ++ c ∷ []) cs ≡ pass vs held landed (rejected ++ c ∷ []) cs →
         by-decision d (pass-under own vs (held ++ c ∷ []) landed rejected cs) (pass-under own vs held (landed ++ c ∷ []) rejected cs) (pass-under own vs held landed (rejected ++ c ∷ []) cs)
         ≡ by-decision d (pass vs (held ++ c ∷ []) landed rejected cs) (pass vs held (landed ++ c ∷ []) rejected cs) (pass vs held landed (rejected ++ c ∷ []) cs)

@@ -65,7 +65,8 @@ row-at : (Q : List Change → Change → Type 0) (pre before : List Change) (c :
 row-at Q pre [] c rest r = subst (λ (x : List Change). Q x c) (sym (append-nil pre)) (r .0)
 row-at Q pre (b ∷ before) c rest r = subst (λ (x : List Change). Q x c) (append-assoc pre (b ∷ []) before) (row-at Q (pre ++ b ∷ []) before c rest (r .1))
 
-row-map : (T : Change → Type 0) (Q R : List Change → Change → Type 0) → ((pre : List Change) (w : Change) → T w → Q pre w → R pre w) → (pre ws : List Change) → All T ws → Row Q pre ws → Row R pre ws
+row-map : (T : Change → Type 0) (Q R : List Change → Change → Type 0) → ((pre : List Change) (w : Change) → T w → Q pre w → R pre w) → (pre ws : List Change) → All T ws →
+    Row Q pre ws → Row R pre ws
 row-map T Q R k pre [] a r = tt
 row-map T Q R k pre (w ∷ ws) a r = (k pre w (a .0) (r .0), row-map T Q R k (pre ++ w ∷ []) ws (a .1) (r .1))
 
@@ -119,7 +120,8 @@ all-good-still us (r ∷ rs) vs e = go (all-good-still us rs vs) (and-cases (is-
     not-good k true = k
     not-good k false = refl
 
-    go : (all-good rs vs ≡ false → all-good rs (still-known us vs) ≡ false) → (is-good (heard r vs) ≡ false) ⊎ (all-good rs vs ≡ false) → (is-good (heard r (still-known us vs)) && all-good rs (still-known us vs)) ≡ false
+    go : (all-good rs vs ≡ false → all-good rs (still-known us vs) ≡ false) → (is-good (heard r vs) ≡ false) ⊎ (all-good rs vs ≡ false) →
+        (is-good (heard r (still-known us vs)) && all-good rs (still-known us vs)) ≡ false
     go ih (inl k) = ap (λ (b : Bool). b && all-good rs (still-known us vs)) (ap is-good (heard-still us r vs) ∙ not-good k (among r us))
     go ih (inr k) = ap (_&&_ (is-good (heard r (still-known us vs)))) (ih k) ∙ and-false (is-good (heard r (still-known us vs)))
 
@@ -162,7 +164,8 @@ lacks-at ks L n (p ∷ ps) i j = go (lacks-at ks L n ps (neither-right (is-bad (
     r : Run
     r = run-on L n p
 
-    go : (all-good (runs-on L n ps) ks ≡ false → Lacks ks L n ps) → (b : Bool) → is-good (heard r ks) ≡ b → (b && all-good (runs-on L n ps) ks) ≡ false → Lacks ks L n (p ∷ ps)
+    go : (all-good (runs-on L n ps) ks ≡ false → Lacks ks L n ps) → (b : Bool) → is-good (heard r ks) ≡ b → (b && all-good (runs-on L n ps) ks) ≡ false →
+        Lacks ks L n (p ∷ ps)
     go ih true k h = let m = ih h in (m .0, has-tail p ps (m .0) (m .1), m .2)
     go ih false k h = (p, has-head p ps, unknown-from (heard r ks) (neither-left (is-bad (heard r ks)) (any-bad (runs-on L n ps) ks) i) k)
 

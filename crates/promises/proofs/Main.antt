@@ -136,7 +136,8 @@ inv-decided f t C q i = record {
 }
 
 -- so does recording an event: other marks, with the same decisions
-same-matches : (f : Bench) (C L W B C′ W′ : List Change) (g : Matches f C L W B) (M : List Mark) → arrived M ≡ C′ → waits M ≡ W′ → Sound f [] [] M → lands M ≡ lands (g .marks) → rejects M ≡ rejects (g .marks) → Matches f C′ L W′ B
+same-matches : (f : Bench) (C L W B C′ W′ : List Change) (g : Matches f C L W B) (M : List Mark) → arrived M ≡ C′ → waits M ≡ W′ → Sound f [] [] M →
+    lands M ≡ lands (g .marks) → rejects M ≡ rejects (g .marks) → Matches f C′ L W′ B
 same-matches f C L W B C′ W′ g M x y z i t = record {
   marks = M;
   arrived-is = x;
@@ -165,7 +166,8 @@ new-number f C q n e i =
     behind = neither-right (numbered n (q .landed)) (numbered n (q .waiting) || numbered n (q .rejected)) e
 
 -- a submission waits behind all, a withdrawal leaves its place, a report is true
-inv-recorded : (f : Bench) (t : Config) (C : List Change) (q : Queue) (e : Event) → accepts t q e ≡ true → Truthful f (reported-by q e) → Inv f C q → Inv f (arrivals-with e C) (recorded q e)
+inv-recorded : (f : Bench) (t : Config) (C : List Change) (q : Queue) (e : Event) → accepts t q e ≡ true → Truthful f (reported-by q e) → Inv f C q →
+    Inv f (arrivals-with e C) (recorded q e)
 unfolding accepts recorded
 inv-recorded f t C q (submit c) a r i = record {
   matches = same-matches f C (q .landed) (q .waiting) (q .rejected) (C ++ c ∷ []) (q .waiting ++ c ∷ []) g (m ++ wait c ∷ [])

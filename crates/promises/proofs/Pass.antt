@@ -53,7 +53,8 @@ heard-bad : (f : Bench) (r : Run) (ks : List Verdict) → Truthful f ks → is-b
 heard-bad f r [] t e = absurd (true≢false (sym e))
 heard-bad f r (v ∷ ks) t e = go (heard-bad f r ks (t .1)) (same-run r (v .run)) refl (v .good) refl e
   where
-    go : (is-bad (heard r ks) ≡ true → says f r ≡ false) → (b : Bool) → same-run r (v .run) ≡ b → (g : Bool) → v .good ≡ g → is-bad (cond b (cond g Good Bad) (heard r ks)) ≡ true → says f r ≡ false
+    go : (is-bad (heard r ks) ≡ true → says f r ≡ false) → (b : Bool) → same-run r (v .run) ≡ b → (g : Bool) → v .good ≡ g →
+        is-bad (cond b (cond g Good Bad) (heard r ks)) ≡ true → says f r ≡ false
     go ih true k true j h = absurd (true≢false (sym h))
     go ih true k false j h = ap (says f) (same-run-is r (v .run) k) ∙ sym (t .0) ∙ j
     go ih false k g j h = ih h
@@ -62,13 +63,15 @@ heard-good : (f : Bench) (r : Run) (ks : List Verdict) → Vouched f ks → is-g
 heard-good f r [] t e = absurd (true≢false (sym e))
 heard-good f r (v ∷ ks) t e = go (heard-good f r ks (t .1)) (same-run r (v .run)) refl (v .good) refl e
   where
-    go : (is-good (heard r ks) ≡ true → says f r ≡ true) → (b : Bool) → same-run r (v .run) ≡ b → (g : Bool) → v .good ≡ g → is-good (cond b (cond g Good Bad) (heard r ks)) ≡ true → says f r ≡ true
+    go : (is-good (heard r ks) ≡ true → says f r ≡ true) → (b : Bool) → same-run r (v .run) ≡ b → (g : Bool) → v .good ≡ g →
+        is-good (cond b (cond g Good Bad) (heard r ks)) ≡ true → says f r ≡ true
     go ih true k false j h = absurd (true≢false (sym h))
     go ih true k true j h = ap (says f) (same-run-is r (v .run) k) ∙ t .0 j
     go ih false k g j h = ih h
 
 -- a change with a bad run does not pass
-pub bad-fails : (f : Bench) (ks : List Verdict) → Truthful f ks → (xs : List Change) (c : Change) (ps : List ℕ) → any-bad (runs-on xs (c .number) ps) ks ≡ true → passes-on f xs c ps ≡ false
+pub bad-fails : (f : Bench) (ks : List Verdict) → Truthful f ks → (xs : List Change) (c : Change) (ps : List ℕ) → any-bad (runs-on xs (c .number) ps) ks ≡ true →
+    passes-on f xs c ps ≡ false
 unfolding passes-on
 bad-fails f ks t xs c [] e = absurd (true≢false (sym e))
 bad-fails f ks t xs c (p ∷ ps) e = go (bad-fails f ks t xs c ps) (is-bad (heard r ks)) refl e
@@ -76,12 +79,14 @@ bad-fails f ks t xs c (p ∷ ps) e = go (bad-fails f ks t xs c ps) (is-bad (hear
     r : Run
     r = run-on xs (c .number) p
 
-    go : (any-bad (runs-on xs (c .number) ps) ks ≡ true → passes-on f xs c ps ≡ false) → (b : Bool) → is-bad (heard r ks) ≡ b → (b || any-bad (runs-on xs (c .number) ps) ks) ≡ true → (says f r && passes-on f xs c ps) ≡ false
+    go : (any-bad (runs-on xs (c .number) ps) ks ≡ true → passes-on f xs c ps ≡ false) → (b : Bool) → is-bad (heard r ks) ≡ b →
+        (b || any-bad (runs-on xs (c .number) ps) ks) ≡ true → (says f r && passes-on f xs c ps) ≡ false
     go ih true k h = ap (λ (b : Bool). b && passes-on f xs c ps) (heard-bad f r ks t k)
     go ih false k h = ap (λ (b : Bool). says f r && b) (ih h) ∙ and-false (says f r)
 
 -- one with all runs good does
-pub good-passes : (f : Bench) (ks : List Verdict) → Vouched f ks → (xs : List Change) (c : Change) (ps : List ℕ) → all-good (runs-on xs (c .number) ps) ks ≡ true → passes-on f xs c ps ≡ true
+pub good-passes : (f : Bench) (ks : List Verdict) → Vouched f ks → (xs : List Change) (c : Change) (ps : List ℕ) → all-good (runs-on xs (c .number) ps) ks ≡ true →
+    passes-on f xs c ps ≡ true
 unfolding passes-on
 good-passes f ks t xs c [] e = refl
 good-passes f ks t xs c (p ∷ ps) e =
@@ -122,7 +127,8 @@ why : (ks : List Verdict) (L H : List Change) (c : Change) → Why ks L H c (dec
 unfolding decision
 why ks L H c = go (shares-any c H) refl (any-bad (runs-on L (c .number) (c .parts)) ks) refl (all-good (runs-on L (c .number) (c .parts)) ks) refl
   where
-    go : (s : Bool) → shares-any c H ≡ s → (b : Bool) → any-bad (runs-on L (c .number) (c .parts)) ks ≡ b → (g : Bool) → all-good (runs-on L (c .number) (c .parts)) ks ≡ g →
+    go : (s : Bool) → shares-any c H ≡ s → (b : Bool) → any-bad (runs-on L (c .number) (c .parts)) ks ≡ b → (g : Bool) →
+        all-good (runs-on L (c .number) (c .parts)) ks ≡ g →
         Why ks L H c (cond s Wait (cond b Reject (cond g Land Wait)))
     go true e b i g j = for-parts e
     go false e true i g j = record { apart = shares-apart c H e; bad = i }
@@ -152,7 +158,8 @@ pass-by ks P w l b (c ∷ R) L H B h = go (decision ks H L c) (why ks L H c)
     s₂ : Passed
     s₂ = pass ks H L (B ++ c ∷ []) R
 
-    go : (x : Decision) → Why ks L H c x → (P L (H ++ c ∷ []) R B → P (s₀ .landed) (s₀ .waiting) [] (s₀ .rejected)) → (P (L ++ c ∷ []) H R B → P (s₁ .landed) (s₁ .waiting) [] (s₁ .rejected)) →
+    go : (x : Decision) → Why ks L H c x → (P L (H ++ c ∷ []) R B → P (s₀ .landed) (s₀ .waiting) [] (s₀ .rejected)) →
+        (P (L ++ c ∷ []) H R B → P (s₁ .landed) (s₁ .waiting) [] (s₁ .rejected)) →
         (P L H R (B ++ c ∷ []) → P (s₂ .landed) (s₂ .waiting) [] (s₂ .rejected)) → P (by-decision x s₀ s₁ s₂ .landed) (by-decision x s₀ s₁ s₂ .waiting) [] (by-decision x s₀ s₁ s₂ .rejected)
     go Wait y q₀ q₁ q₂ = q₀ (w L H c R B y h)
     go Land y q₀ q₁ q₂ = q₁ (l L H c R B y h)

@@ -234,7 +234,8 @@ checked-not t q behind xs es s e =
     third = then-none depth (event-check report-kind es) (second .1)
 
 -- what meets the test is not refused
-checked : (t : Config) (q : Queue) (behind xs es : List ℕ) → Says t q behind xs → benches-check (t .benches) ≡ None → depth-check (t .depth) ≡ None → queue-check xs ≡ None → length (q .verdicts) < most-verdicts →
+checked : (t : Config) (q : Queue) (behind xs es : List ℕ) → Says t q behind xs → benches-check (t .benches) ≡ None → depth-check (t .depth) ≡ None →
+    queue-check xs ≡ None → length (q .verdicts) < most-verdicts →
     Taken-if t q es ≡ true → refusal report-kind xs es ≡ None
 checked t q behind xs es s b d c v e =
     then-from (front-check report-kind xs es) (kind-check k xs es)
@@ -292,13 +293,15 @@ lent-from t behind d b (es ∷ ess) q r = go (stepped-is t q behind es (subst Fi
     go (inr k) same next = subst₂ Goal (sym (k .0)) (sym (k .1)) same
 
 -- what opening wrote, and which configs it takes
-opened-is : (slice : List ℕ) (b k : ℕ) → is-done (opened slice b k .0) ≡ true → (opened slice b k .1 ≡ encode (config b k) empty (drop queue-length slice)) × (benches-check b ≡ None) × (depth-check k ≡ None)
+opened-is : (slice : List ℕ) (b k : ℕ) → is-done (opened slice b k .0) ≡ true →
+    (opened slice b k .1 ≡ encode (config b k) empty (drop queue-length slice)) × (benches-check b ≡ None) × (depth-check k ≡ None)
 opened-is slice b k e = go (then (length-check slice) (then (benches-check b) (depth-check k))) refl e
   where
     xs : List ℕ
     xs = encode (config b k) empty (drop queue-length slice)
 
-    go : (c : Check) → then (length-check slice) (then (benches-check b) (depth-check k)) ≡ c → is-done (unless-refused c slice (Done 0, xs) .0) ≡ true → (unless-refused c slice (Done 0, xs) .1 ≡ xs) × (benches-check b ≡ None) × (depth-check k ≡ None)
+    go : (c : Check) → then (length-check slice) (then (benches-check b) (depth-check k)) ≡ c → is-done (unless-refused c slice (Done 0, xs) .0) ≡ true →
+        (unless-refused c slice (Done 0, xs) .1 ≡ xs) × (benches-check b ≡ None) × (depth-check k ≡ None)
     go None n h =
         let both = then-none (benches-check b) (depth-check k) (then-none (length-check slice) (then (benches-check b) (depth-check k)) n .1) in
         (refl, both .0, both .1)

@@ -57,7 +57,8 @@ pub among-kept : (test : Run → Bool) (r : Run) (rs : List Run) → among r (ke
 among-kept test r [] = sym (and-false (test r))
 among-kept test r (s ∷ rs) = go (among-kept test r rs) (same-run r s) refl (test s) refl
   where
-    go : among r (kept test rs) ≡ (test r && among r rs) → (b : Bool) → same-run r s ≡ b → (t : Bool) → test s ≡ t → among r (cond t (s ∷ kept test rs) (kept test rs)) ≡ (test r && (b || among r rs))
+    go : among r (kept test rs) ≡ (test r && among r rs) → (b : Bool) → same-run r s ≡ b → (t : Bool) → test s ≡ t →
+        among r (cond t (s ∷ kept test rs) (kept test rs)) ≡ (test r && (b || among r rs))
     go ih true k true j = ap (λ (x : Bool). x || among r (kept test rs)) k ∙ sym (ap (λ (x : Bool). x && true) (ap test (same-run-is r s k) ∙ j))
     go ih true k false j = ih ∙ ap (λ (x : Bool). x && among r rs) (ap test (same-run-is r s k) ∙ j) ∙ sym (ap (λ (x : Bool). x && true) (ap test (same-run-is r s k) ∙ j))
     go ih false k true j = ap (λ (x : Bool). x || among r (kept test rs)) k ∙ ih

@@ -42,7 +42,8 @@ passes-at f xs c (q ∷ ps) e p h = go (passes-at f xs c ps (both-right (f q (li
     go ih false k j = ih j
 
 -- so each prefix of the main line is good on the parts of its last change
-grown-at : (f : Bench) (cs pre : List Change) → Grown f pre cs → (k p : ℕ) (c : Change) → k < length cs → has (getD cs k c .parts) p ≡ true → f p (line p (pre ++ take (suc k) cs)) ≡ true
+grown-at : (f : Bench) (cs pre : List Change) → Grown f pre cs → (k p : ℕ) (c : Change) → k < length cs → has (getD cs k c .parts) p ≡ true →
+    f p (line p (pre ++ take (suc k) cs)) ≡ true
 unfolding passes
 grown-at f [] pre g k p c l h = absurd (omega arith)
 grown-at f (d ∷ cs) pre g zero p c l h =

@@ -53,7 +53,8 @@ no-fault seen i (p ∷ ps) e = go (no-fault (p ∷ seen) (suc i) ps) (ltb p part
 pub proper-is : (c : Change) → proper c ≡ true → Proper c
 proper-is c e = go (leb 1 (length (c .parts)) && leb (length (c .parts)) most-parts) refl (not-true (isSome (fault c)) e)
   where
-    go : (b : Bool) → (leb 1 (length (c .parts)) && leb (length (c .parts)) most-parts) ≡ b → isSome (cond b (fault-from [] 0 (c .parts)) (Some most-parts)) ≡ false → Proper c
+    go : (b : Bool) → (leb 1 (length (c .parts)) && leb (length (c .parts)) most-parts) ≡ b → isSome (cond b (fault-from [] 0 (c .parts)) (Some most-parts)) ≡ false →
+        Proper c
     go true k h = record {
       some = leb-true 1 (length (c .parts)) (both-left (leb 1 (length (c .parts))) (leb (length (c .parts)) most-parts) k);
       few = leb-true (length (c .parts)) most-parts (both-right (leb 1 (length (c .parts))) (leb (length (c .parts)) most-parts) k);
@@ -83,7 +84,8 @@ pub among-runs : (L : List Change) (n : ℕ) (ps : List ℕ) (p : ℕ) → has p
 among-runs L n [] p h = absurd (true≢false (sym h))
 among-runs L n (q ∷ ps) p h = go (among-runs L n ps p) (eqb q p) refl h
   where
-    go : (has ps p ≡ true → among (run-on L n p) (runs-on L n ps) ≡ true) → (b : Bool) → eqb q p ≡ b → (b || has ps p) ≡ true → among (run-on L n p) (run-on L n q ∷ runs-on L n ps) ≡ true
+    go : (has ps p ≡ true → among (run-on L n p) (runs-on L n ps) ≡ true) → (b : Bool) → eqb q p ≡ b → (b || has ps p) ≡ true →
+        among (run-on L n p) (run-on L n q ∷ runs-on L n ps) ≡ true
     go ih true k j = subst (λ (x : ℕ). among (run-on L n x) (run-on L n q ∷ runs-on L n ps) ≡ true) (eqb-true q p k) (among-head (run-on L n q) (runs-on L n ps))
     go ih false k j = among-right (run-on L n p) (run-on L n q ∷ []) (runs-on L n ps) (ih j)
 
@@ -107,7 +109,8 @@ useful-more (suc n) (w ∷ ws) vs xs r e = elim (among-cases r (runs-on xs (w .n
 ]
 
 -- a change lands that shares no part with those that wait before it: what was useful is one of its runs or still useful
-pub useful-land : (n : ℕ) (W₁ : List Change) (c : Change) (W₂ xs ys : List Change) → Apart c W₁ → Alike ys (xs ++ c ∷ []) → (r : Run) → among r (useful n xs (W₁ ++ c ∷ W₂)) ≡ true →
+pub useful-land : (n : ℕ) (W₁ : List Change) (c : Change) (W₂ xs ys : List Change) → Apart c W₁ → Alike ys (xs ++ c ∷ []) → (r : Run) →
+    among r (useful n xs (W₁ ++ c ∷ W₂)) ≡ true →
     (among r (runs-on xs (c .number) (c .parts)) ≡ true) ⊎ (among r (useful n ys (W₁ ++ W₂)) ≡ true)
 unfolding useful
 useful-land zero W₁ c W₂ xs ys a e r h = absurd (true≢false (sym h))
@@ -159,7 +162,8 @@ runs-part : (b : List Change) (n : ℕ) (ps : List ℕ) (r : Run) → among r (r
 runs-part b n [] r e = absurd (true≢false (sym e))
 runs-part b n (p ∷ ps) r e = go (runs-part b n ps r) (same-run r (run-on b n p)) refl e
   where
-    go : (among r (runs-on b n ps) ≡ true → has ps (r .part) ≡ true) → (t : Bool) → same-run r (run-on b n p) ≡ t → (t || among r (runs-on b n ps)) ≡ true → (eqb p (r .part) || has ps (r .part)) ≡ true
+    go : (among r (runs-on b n ps) ≡ true → has ps (r .part) ≡ true) → (t : Bool) → same-run r (run-on b n p) ≡ t → (t || among r (runs-on b n ps)) ≡ true →
+        (eqb p (r .part) || has ps (r .part)) ≡ true
     go ih true j h = ap (λ (t : Bool). t || has ps (r .part)) (eq-eqb p (r .part) (sym (ap (λ (s : Run). s .part) (same-run-is r (run-on b n p) j))))
     go ih false j h = ap (_||_ (eqb p (r .part))) (ih h) ∙ or-true (eqb p (r .part))
 
@@ -194,7 +198,8 @@ runs-begin : (L : List Change) (k : ℕ) (pre : List Change) (n : ℕ) (ps : Lis
 runs-begin L k pre n [] l r e = absurd (true≢false (sym e))
 runs-begin L k pre n (p ∷ ps) l r e = go (runs-begin L k pre n ps l r) (same-run r (run-on (L ++ pre) n p)) refl e
   where
-    go : (among r (runs-on (L ++ pre) n ps) ≡ true → Ahead-by L k r) → (b : Bool) → same-run r (run-on (L ++ pre) n p) ≡ b → (b || among r (runs-on (L ++ pre) n ps)) ≡ true → Ahead-by L k r
+    go : (among r (runs-on (L ++ pre) n ps) ≡ true → Ahead-by L k r) → (b : Bool) → same-run r (run-on (L ++ pre) n p) ≡ b →
+        (b || among r (runs-on (L ++ pre) n ps)) ≡ true → Ahead-by L k r
     go ih true j h = subst (Ahead-by L k) (sym (same-run-is r (run-on (L ++ pre) n p) j)) (run-begins L k pre n p l)
     go ih false j h = ih h
 

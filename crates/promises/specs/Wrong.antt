@@ -151,7 +151,7 @@ past-others = record {
 abbrev pub first-only : Rules
 first-only = record { decides = decision; looks = useful; keeps = own .keeps; stays = λ landed waiting r. among r (useful 1 landed waiting) }
 
--- change 1 touches parts 0 and 1, changes 2 and 3 touch part 1; two reports, and then a third
+-- change 1 touches parts 0 and 1, changes 2 and 3 touch part 1; with four benches 0:1, 1:1, 1:1+2 and 1:1+2+3 run, in this order
 abbrev pub three-submitted : List Event
 three-submitted = submit (change 1 (0 ∷ 1 ∷ [])) ∷ submit (change 2 (1 ∷ [])) ∷ submit (change 3 (1 ∷ [])) ∷ []
 
