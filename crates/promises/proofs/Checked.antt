@@ -28,7 +28,6 @@ use Rattle.run.specs.Layout.{most-landed, most-waiting, most-rejected, most-ver
 use Rattle.run.specs.State.{Config, Queue}
 use Rattle.run.specs.Numbers.{Sections, sections, whole, config-in, landed-in, decode, changes-section, sections-of, encode, Small, Fits}
 use Rattle.queue.specs.Refusals.{Check, then, unless, count-check, counts-check, over, changes-check, following-check, records-check, sums-check, overlong, runs-check, queue-check}
-use Rattle.queue.specs.WorkedDay.{row}
 
 -- CHECKS. One that does not refuse is passed.
 abbrev pub passed : Check → Bool

@@ -22,11 +22,11 @@ use Rattle.promises.specs.Promises.{Each-run-once, Waste-bounded}
 use Rattle.promises.proofs.Basics.{clash, not-so, neither-right, both-left, both-right, numbered-push, kept-all}
 use Rattle.promises.proofs.Serial.{all-at}
 use Rattle.promises.proofs.Pass.{Lands, Rejects, pass-all}
-use Rattle.promises.proofs.Marks.{ended, numbered-place}
+use Rattle.promises.proofs.Marks.{numbered-place}
 use Rattle.promises.proofs.Days.{log-keeps}
 use Rattle.promises.proofs.Runs.{among-head, among-append, among-left, among-right, among-cases, among-one, Sub, all-from, among-kept, different-kept, different-append, different-both, different-apart, pigeons}
 use Rattle.promises.proofs.Useful.{Proper, length-runs-on, useful-more, useful-land, last, runs-last, useful-last, different-runs, useful-few, useful-parts}
-use Rattle.promises.proofs.Held.{Neat, neat-land, neat-reject, neat-recorded, known, unknown-is, moved, kept-append, still-held, Replanned, Orderly, ready, orderly-step, orderly-empty, orderly}
+use Rattle.promises.proofs.Held.{Neat, neat-land, neat-reject, neat-recorded, known, unknown-is, moved, kept-append, still-held, Replanned, Orderly, ready, orderly-step, orderly-empty}
 use Rattle.promises.proofs.Idle.{useful-none}
 
 -- what is known good is known

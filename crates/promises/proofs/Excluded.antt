@@ -11,7 +11,6 @@ use Rattle.serial.specs.Serial.{passes-on, passes, serial-landed}
 use Rattle.decide.specs.Decide.{decision, by-decision, pass}
 use Rattle.plan.specs.Plan.{useful, still-running, still-known, request}
 use Rattle.queue.specs.Queue.{accepts, recorded, with-passed, decided, useful-in, with-runs, planned, step}
-use Rattle.promises.specs.Day.{held}
 use Rattle.promises.specs.Wrong.{own, pass-under, decided-under, planned-under, step-under, Own-rules, played-from, Wrong-queues}
 use Rattle.promises.proofs.Basics.{kept-all}
 use Rattle.promises.proofs.Runs.{all-from}

@@ -17,7 +17,6 @@ use Rattle.run.specs.Run.{Run, Verdict, same-run, heard, is-unknown}
 use Rattle.run.specs.State.{Config, Queue, empty}
 use Rattle.plan.specs.Plan.{useful, among, kept, still-running, still-known, lacks, request}
 use Rattle.queue.specs.Queue.{Event, submit, withdraw, report, used, fresh, proper, roomy, accepts, no-run, answered, recorded, decided, useful-in, planned, step, after, replayed}
-use Rattle.queue.specs.WorkedDay.{run}
 use Rattle.promises.specs.Day.{held, Different}
 use Rattle.promises.specs.Promises.{Only-useful-runs}
 use Rattle.promises.proofs.Basics.{clash, not-so, neither-left, neither-right, both-left, both-right, numbered-push, length-place}

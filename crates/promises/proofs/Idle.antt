@@ -16,7 +16,6 @@ use Rattle.run.specs.State.{Config, Queue, empty}
 use Rattle.decide.specs.Decide.{any-bad, all-good, shares-any, pass}
 use Rattle.plan.specs.Plan.{useful, among, still-running, still-known}
 use Rattle.queue.specs.Queue.{Event, recorded, decided, useful-in, planned, step, replayed}
-use Rattle.queue.specs.WorkedDay.{run}
 use Rattle.promises.specs.Day.{held}
 use Rattle.promises.specs.Promises.{Never-idle, Fully-booked, Decided-when-known}
 use Rattle.promises.proofs.Basics.{clash, neither-left, neither-right, Off, off-sym, line-off, has-head, has-tail}

@@ -14,7 +14,6 @@ use Rattle.run.specs.State.{Config, Queue, empty}
 use Rattle.serial.specs.Serial.{Bench, passes, serial-landed, serial-rejected}
 use Rattle.plan.specs.Plan.{among}
 use Rattle.queue.specs.Queue.{Event, submit, withdraw, report, used, accepts, no-run, recorded, decided, useful-in, planned, step, replayed}
-use Rattle.queue.specs.WorkedDay.{run, numbers}
 use Rattle.promises.specs.Day.{blank, arrivals-with, reported-by, logged, Truthful, not-waiting}
 use Rattle.promises.specs.Promises.{Serial-equivalence}
 use Rattle.promises.proofs.Basics.{neither-left, neither-right, numbered-push, all-both, all-kept}

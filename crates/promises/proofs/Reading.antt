@@ -23,13 +23,10 @@ use Rattle.queue.specs.Queue.{Event, used, fresh, proper, roomy, accepts, step,
 use Rattle.queue.specs.Events.{event-by, event-in}
 use Rattle.queue.specs.Refusals.{Check, then, length-check, benches-check, depth-check, number-check, parts-check, waits-check, place-check, room-check, verdicts-check, requests-check, kind-check, report-kind, front-check, refusal}
 use Rattle.queue.specs.Entry.{unless-refused, config, opened, stepped-to, stepped}
-use Rattle.queue.specs.WorkedDay.{numbers}
 use Rattle.promises.specs.Day.{logged}
 use Rattle.promises.specs.Promises.{As-serial, All-tested}
 use Rattle.promises.specs.Lent.{is-done, lent-day, taken-events, All-accepted, Lent-days, parts-counted, well-formed, Lent-taken, Lent-serial-equivalence, Lent-every-state-tested}
 use Rattle.promises.proofs.Basics.{both-left, both-right}
-use Rattle.promises.proofs.Pass.{says}
-use Rattle.promises.proofs.Marks.{waits}
 use Rattle.promises.proofs.Days.{after-taken, Reached, reached-empty, reached-after}
 use Rattle.promises.proofs.Main.{serial-equivalence}
 use Rattle.promises.proofs.Tested.{every-state-tested}

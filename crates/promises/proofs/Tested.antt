@@ -15,7 +15,6 @@ use Rattle.run.specs.State.{Config, Queue, empty}
 use Rattle.serial.specs.Serial.{Bench, passes-on, passes}
 use Rattle.plan.specs.Plan.{among}
 use Rattle.queue.specs.Queue.{Event, submit, withdraw, report, no-run, recorded, decided, useful-in, planned, step, replayed}
-use Rattle.queue.specs.WorkedDay.{run}
 use Rattle.promises.specs.Day.{blank, reported-by, logged, said-good}
 use Rattle.promises.specs.Promises.{Every-state-tested}
 use Rattle.promises.proofs.Basics.{both-left, both-right, line-with, all-kept}

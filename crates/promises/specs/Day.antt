@@ -11,7 +11,6 @@ use Rattle.run.specs.State.{Config, Queue, empty}
 use Rattle.serial.specs.Serial.{Bench}
 use Rattle.plan.specs.Plan.{among, kept}
 use Rattle.queue.specs.Queue.{Event, submit, withdraw, report, accepts, no-run, useful-in, step, after}
-use Rattle.queue.specs.WorkedDay.{run}
 
 -- what a witness writes down of the events that are taken
 pub record Log : Type 0 where
