@@ -15,8 +15,8 @@ use Rattle.change.specs.Change.{most-parts, Change, numbered, without}
 use Rattle.run.specs.Run.{Run, Verdict, heard, is-good, is-unknown, runs-on}
 use Rattle.run.specs.State.{Config, Queue, empty}
 use Rattle.decide.specs.Decide.{all-good}
-use Rattle.plan.specs.Plan.{useful, among, kept, still-running}
-use Rattle.queue.specs.Queue.{Event, submit, withdraw, report, accepts, recorded, decided, useful-in, planned, step, replayed}
+use Rattle.plan.specs.Plan.{useful, among, kept, still-running, useful-in, planned}
+use Rattle.queue.specs.Queue.{Event, submit, withdraw, report, accepts, recorded, decided, step, replayed}
 use Rattle.promises.specs.Day.{Log, blank, withdrawn-by, new-runs, with-event, logged, held, Different, parts-in}
 use Rattle.promises.specs.Promises.{Each-run-once, Waste-bounded}
 use Rattle.promises.proofs.Basics.{clash, not-so, neither-right, both-left, both-right, numbered-push, kept-all}

@@ -9,8 +9,8 @@ use Rattle.run.specs.Run.{Verdict}
 use Rattle.run.specs.State.{Config, Queue}
 use Rattle.serial.specs.Serial.{passes-on, passes, serial-landed}
 use Rattle.decide.specs.Decide.{decision, by-decision, pass}
-use Rattle.plan.specs.Plan.{useful, still-running, still-known, request}
-use Rattle.queue.specs.Queue.{accepts, recorded, with-passed, decided, useful-in, with-runs, planned, step}
+use Rattle.plan.specs.Plan.{useful, still-running, still-known, request, useful-in, with-runs, planned}
+use Rattle.queue.specs.Queue.{accepts, recorded, with-passed, decided, step}
 use Rattle.promises.specs.Wrong.{own, pass-under, decided-under, planned-under, step-under, Own-rules, played-from, Wrong-queues}
 use Rattle.promises.proofs.Basics.{kept-all}
 use Rattle.promises.proofs.Runs.{all-from}

@@ -13,8 +13,8 @@ use Rattle.std.proofs.shelf.Lists.{length-push, length-map}
 use Rattle.change.specs.Change.{most-parts, Change, numbered, dropped, without}
 use Rattle.run.specs.Run.{Run, Verdict}
 use Rattle.run.specs.State.{Config, Queue, empty}
-use Rattle.plan.specs.Plan.{useful, among, still-known}
-use Rattle.queue.specs.Queue.{Event, submit, withdraw, report, accepts, no-run, recorded, decided, useful-in, planned, step, after, replayed}
+use Rattle.plan.specs.Plan.{useful, among, still-known, useful-in, planned}
+use Rattle.queue.specs.Queue.{Event, submit, withdraw, report, accepts, no-run, recorded, decided, step, after, replayed}
 use Rattle.promises.specs.Day.{held, measure, Not-submit, All-taken}
 use Rattle.promises.specs.Promises.{Progress}
 use Rattle.promises.proofs.Basics.{kept-all, length-place}

@@ -6,7 +6,8 @@ use Rattle.std.proofs.shelf.Lists.{take-at}
 use Rattle.change.specs.Change.{Change, line, numbered}
 use Rattle.run.specs.State.{Config, Queue, empty}
 use Rattle.serial.specs.Serial.{serial-landed, serial-rejected}
-use Rattle.queue.specs.Queue.{Event, submit, withdraw, report, recorded, decided, planned, step, replayed}
+use Rattle.plan.specs.Plan.{planned}
+use Rattle.queue.specs.Queue.{Event, submit, withdraw, report, recorded, decided, step, replayed}
 use Rattle.promises.specs.Day.{logged, not-waiting}
 use Rattle.promises.specs.Promises.{Config-independent, Decisions-final}
 use Rattle.promises.proofs.Pass.{pass-all}

@@ -17,8 +17,8 @@ use Rattle.run.specs.Records.{Ahead}
 use Rattle.run.specs.Layout.{most-landed, most-waiting, most-rejected, most-verdicts, most-benches, most-depth}
 use Rattle.run.specs.State.{Config, Queue, empty}
 use Rattle.run.specs.Numbers.{Fits}
-use Rattle.plan.specs.Plan.{useful, among}
-use Rattle.queue.specs.Queue.{Event, submit, withdraw, report, fresh, proper, roomy, accepts, recorded, decided, useful-in, planned, step, replayed}
+use Rattle.plan.specs.Plan.{useful, among, useful-in, planned}
+use Rattle.queue.specs.Queue.{Event, submit, withdraw, report, fresh, proper, roomy, accepts, recorded, decided, step, replayed}
 use Rattle.promises.specs.Day.{held, Ahead-by}
 use Rattle.promises.specs.Promises.{Verdicts-fit}
 use Rattle.promises.proofs.Basics.{both-left, both-right, all-both, length-place}

@@ -12,11 +12,12 @@ use Rattle.std.specs.shelf.Lists.{All}
 use Rattle.std.proofs.shelf.Elements.{all-push}
 use Rattle.std.proofs.shelf.Lists.{length-push, map-push}
 use Rattle.run.specs.declared.known.Known.the-variants.{Good, Bad}
+use Rattle.run.proofs.Compared.{same-run-swap}
 use Rattle.change.specs.Change.{Change, numbered, dropped, without}
 use Rattle.run.specs.Run.{Run, Verdict, same-run, heard, is-unknown}
 use Rattle.run.specs.State.{Config, Queue, empty}
-use Rattle.plan.specs.Plan.{useful, among, kept, still-running, still-known, lacks, request}
-use Rattle.queue.specs.Queue.{Event, submit, withdraw, report, used, fresh, proper, roomy, accepts, no-run, answered, recorded, decided, useful-in, planned, step, after, replayed}
+use Rattle.plan.specs.Plan.{useful, among, kept, still-running, still-known, lacks, request, useful-in, planned}
+use Rattle.queue.specs.Queue.{Event, submit, withdraw, report, used, fresh, proper, roomy, accepts, no-run, answered, recorded, decided, step, after, replayed}
 use Rattle.promises.specs.Day.{held, Different}
 use Rattle.promises.specs.Promises.{Only-useful-runs}
 use Rattle.promises.proofs.Basics.{clash, not-so, neither-left, neither-right, both-left, both-right, numbered-push, length-place}
@@ -24,7 +25,7 @@ use Rattle.promises.proofs.Serial.{all-out, all-at}
 use Rattle.promises.proofs.Pass.{pass-all}
 use Rattle.promises.proofs.Marks.{numbered-place, Distinct, distinct-push, numbered-dropped, distinct-dropped}
 use Rattle.promises.proofs.Days.{day-keeps, fresh-number}
-use Rattle.promises.proofs.Runs.{same-run-sym, among-head, among-append, among-left, among-right, among-cases, among-one, among-place, Sub, all-from, among-kept, different-kept, different-push}
+use Rattle.promises.proofs.Runs.{among-head, among-append, among-left, among-right, among-cases, among-one, among-place, Sub, all-from, among-kept, different-kept, different-push}
 use Rattle.promises.proofs.Useful.{Proper, proper-is}
 
 -- CHANGES. L has landed, W waits, B was rejected.
@@ -165,7 +166,7 @@ different-moved [] [] r B d = d
 different-moved [] (x ∷ A) r B d =
     let k = different-moved [] A r B (d .1) in
     let other = sym (among-place x A r B) ∙ d .0 in (
-      or-from (same-run r x) (among r (A ++ B)) (not-so (same-run r x) (λ e. clash (same-run-sym r x e) (neither-left (same-run x r) (among x (A ++ B)) other))) (k .0),
+      or-from (same-run r x) (among r (A ++ B)) (not-so (same-run r x) (λ e. clash (sym (same-run-swap r x) ∙ e) (neither-left (same-run x r) (among x (A ++ B)) other))) (k .0),
       (neither-right (same-run x r) (among x (A ++ B)) other, k .1),
     )
 different-moved (k ∷ K) A r B d = (among-moved k K A r B ∙ d .0, different-moved K A r B (d .1))

@@ -10,17 +10,18 @@ use Rattle.std.proofs.shelf.Tests.{not-true, or-from, and-cases}
 use Rattle.std.specs.shelf.Lists.{All}
 use Rattle.run.specs.declared.known.Known.{Known}
 use Rattle.run.specs.declared.known.Known.the-variants.{Nothing, Good, Bad}
+use Rattle.run.proofs.Compared.{same-run-true}
 use Rattle.change.specs.Change.{Change, has, share}
 use Rattle.run.specs.Run.{Run, Verdict, same-run, heard, is-good, is-bad, is-unknown, run-on, runs-on}
 use Rattle.run.specs.State.{Config, Queue, empty}
 use Rattle.decide.specs.Decide.{any-bad, all-good, shares-any, pass}
-use Rattle.plan.specs.Plan.{useful, among, still-running, still-known}
-use Rattle.queue.specs.Queue.{Event, recorded, decided, useful-in, planned, step, replayed}
+use Rattle.plan.specs.Plan.{useful, among, still-running, still-known, useful-in, planned}
+use Rattle.queue.specs.Queue.{Event, recorded, decided, step, replayed}
 use Rattle.promises.specs.Day.{held}
 use Rattle.promises.specs.Promises.{Never-idle, Fully-booked, Decided-when-known}
 use Rattle.promises.proofs.Basics.{clash, neither-left, neither-right, Off, off-sym, line-off, has-head, has-tail}
 use Rattle.promises.proofs.Serial.{Loose, Apart}
-use Rattle.promises.proofs.Pass.{same-run-is, shares-apart, Why-wait, for-parts, for-runs, pass-by}
+use Rattle.promises.proofs.Pass.{shares-apart, Why-wait, for-parts, for-runs, pass-by}
 use Rattle.promises.proofs.Marks.{no-cons}
 use Rattle.promises.proofs.Days.{day-keeps}
 use Rattle.promises.proofs.Runs.{among-left, among-cases, Sub, all-from}
@@ -94,9 +95,9 @@ heard-still us r (v ∷ vs) = go (heard-still us r vs) (same-run r (v .run)) ref
 
     go : heard r (still-known us vs) ≡ cond (among r us) (heard r vs) Nothing → (b : Bool) → same-run r (v .run) ≡ b → (m : Bool) → among (v .run) us ≡ m →
         heard r (cond m (v ∷ still-known us vs) (still-known us vs)) ≡ cond (among r us) (cond b said (heard r vs)) Nothing
-    go ih true k true j = ap (λ (x : Bool). cond x said (heard r (still-known us vs))) k ∙ sym (ap (λ (x : Bool). cond x said Nothing) (ap (λ (s : Run). among s us) (same-run-is r (v .run) k) ∙ j))
+    go ih true k true j = ap (λ (x : Bool). cond x said (heard r (still-known us vs))) k ∙ sym (ap (λ (x : Bool). cond x said Nothing) (ap (λ (s : Run). among s us) (same-run-true r (v .run) k) ∙ j))
     go ih true k false j =
-        let gone : among r us ≡ false = ap (λ (s : Run). among s us) (same-run-is r (v .run) k) ∙ j in
+        let gone : among r us ≡ false = ap (λ (s : Run). among s us) (same-run-true r (v .run) k) ∙ j in
         ih ∙ ap (λ (x : Bool). cond x (heard r vs) Nothing) gone ∙ sym (ap (λ (x : Bool). cond x said Nothing) gone)
     go ih false k true j = ap (λ (x : Bool). cond x said (heard r (still-known us vs))) k ∙ ih
     go ih false k false j = ih

@@ -12,8 +12,8 @@ use Rattle.change.specs.Change.{Change, line, numbered, dropped}
 use Rattle.run.specs.Run.{Verdict}
 use Rattle.run.specs.State.{Config, Queue, empty}
 use Rattle.serial.specs.Serial.{Bench, passes, serial-landed, serial-rejected}
-use Rattle.plan.specs.Plan.{among}
-use Rattle.queue.specs.Queue.{Event, submit, withdraw, report, used, accepts, no-run, recorded, decided, useful-in, planned, step, replayed}
+use Rattle.plan.specs.Plan.{among, useful-in, planned}
+use Rattle.queue.specs.Queue.{Event, submit, withdraw, report, used, accepts, no-run, recorded, decided, step, replayed}
 use Rattle.promises.specs.Day.{blank, arrivals-with, reported-by, logged, Truthful, not-waiting}
 use Rattle.promises.specs.Promises.{Serial-equivalence}
 use Rattle.promises.proofs.Basics.{neither-left, neither-right, numbered-push, all-both, all-kept}

@@ -3,14 +3,13 @@ use mathlib.Core.Path.{_≡_, refl, sym, ap, ap₂, subst, _∙_}
 use mathlib.Core.Bool.{Bool, true, false, cond, _||_, _&&_, and-false, true≢false}
 use mathlib.Core.List.{List, [], _∷_, _++_, append-nil, append-assoc}
 use Prim.Native.Nat.{ℕ}
-use lib.Dec.{eqb}
-use Rattle.std.proofs.shelf.Tests.{eqb-true, eq-eqb}
 use Rattle.std.specs.shelf.Lists.{All}
 use Rattle.decide.specs.declared.decision.Decision.{Decision}
 use Rattle.decide.specs.declared.decision.Decision.the-variants.{Wait, Land, Reject}
 use Rattle.run.specs.declared.known.Known.the-variants.{Good, Bad}
+use Rattle.run.proofs.Compared.{same-run-true}
 use Rattle.change.specs.Change.{Change, share}
-use Rattle.run.specs.Run.{Run, Verdict, same-list, same-run, heard, is-good, is-bad, run-on, runs-on}
+use Rattle.run.specs.Run.{Run, Verdict, same-run, heard, is-good, is-bad, run-on, runs-on}
 use Rattle.serial.specs.Serial.{Bench, passes-on}
 use Rattle.decide.specs.Decide.{any-bad, all-good, shares-any, decision, by-decision, Passed, pass}
 use Rattle.promises.specs.Day.{Truthful}
@@ -25,26 +24,6 @@ pub truthful-vouched : (f : Bench) (ks : List Verdict) → Truthful f ks → Vou
 truthful-vouched f [] t = tt
 truthful-vouched f (v ∷ ks) t = (λ e. sym (t .0) ∙ e, truthful-vouched f ks (t .1))
 
--- runs that the test calls the same are the same
-same-list-is : (xs ys : List ℕ) → same-list xs ys ≡ true → xs ≡ ys
-same-list-is [] [] e = refl
-same-list-is [] (y ∷ ys) e = absurd (true≢false (sym e))
-same-list-is (x ∷ xs) [] e = absurd (true≢false (sym e))
-same-list-is (x ∷ xs) (y ∷ ys) e =
-    ap₂ (λ (a : ℕ) (r : List ℕ). a ∷ r) (eqb-true x y (both-left (eqb x y) (same-list xs ys) e)) (same-list-is xs ys (both-right (eqb x y) (same-list xs ys) e))
-
-same-list-refl : (xs : List ℕ) → same-list xs xs ≡ true
-same-list-refl [] = refl
-same-list-refl (x ∷ xs) = ap₂ _&&_ (eq-eqb x x refl) (same-list-refl xs)
-
-pub same-run-is : (r s : Run) → same-run r s ≡ true → r ≡ s
-same-run-is r s e =
-    ap₂ (λ (a : ℕ) (w : List ℕ). record { part = a; changes = w }) (eqb-true (r .part) (s .part) (both-left (eqb (r .part) (s .part)) (same-list (r .changes) (s .changes)) e))
-    (same-list-is (r .changes) (s .changes) (both-right (eqb (r .part) (s .part)) (same-list (r .changes) (s .changes)) e))
-
-pub same-run-refl : (r : Run) → same-run r r ≡ true
-same-run-refl r = ap₂ _&&_ (eq-eqb (r .part) (r .part) refl) (same-list-refl (r .changes))
-
 abbrev pub says : Bench → Run → Bool
 says f r = f (r .part) (r .changes)
 
@@ -56,7 +35,7 @@ heard-bad f r (v ∷ ks) t e = go (heard-bad f r ks (t .1)) (same-run r (v .run)
     go : (is-bad (heard r ks) ≡ true → says f r ≡ false) → (b : Bool) → same-run r (v .run) ≡ b → (g : Bool) → v .good ≡ g →
         is-bad (cond b (cond g Good Bad) (heard r ks)) ≡ true → says f r ≡ false
     go ih true k true j h = absurd (true≢false (sym h))
-    go ih true k false j h = ap (says f) (same-run-is r (v .run) k) ∙ sym (t .0) ∙ j
+    go ih true k false j h = ap (says f) (same-run-true r (v .run) k) ∙ sym (t .0) ∙ j
     go ih false k g j h = ih h
 
 heard-good : (f : Bench) (r : Run) (ks : List Verdict) → Vouched f ks → is-good (heard r ks) ≡ true → says f r ≡ true
@@ -66,7 +45,7 @@ heard-good f r (v ∷ ks) t e = go (heard-good f r ks (t .1)) (same-run r (v .ru
     go : (is-good (heard r ks) ≡ true → says f r ≡ true) → (b : Bool) → same-run r (v .run) ≡ b → (g : Bool) → v .good ≡ g →
         is-good (cond b (cond g Good Bad) (heard r ks)) ≡ true → says f r ≡ true
     go ih true k false j h = absurd (true≢false (sym h))
-    go ih true k true j h = ap (says f) (same-run-is r (v .run) k) ∙ t .0 j
+    go ih true k true j h = ap (says f) (same-run-true r (v .run) k) ∙ t .0 j
     go ih false k g j h = ih h
 
 -- a change with a bad run does not pass

@@ -9,16 +9,17 @@ use lib.ListN.{length, getD, take}
 use Rattle.std.proofs.shelf.Tests.{eqb-true}
 use Rattle.std.proofs.shelf.Elements.{all-push}
 use Rattle.change.proofs.Changes.{line-append}
+use Rattle.run.proofs.Compared.{same-run-refl}
 use Rattle.change.specs.Change.{Change, has, line}
 use Rattle.run.specs.Run.{Run, Verdict, same-run}
 use Rattle.run.specs.State.{Config, Queue, empty}
 use Rattle.serial.specs.Serial.{Bench, passes-on, passes}
-use Rattle.plan.specs.Plan.{among}
-use Rattle.queue.specs.Queue.{Event, submit, withdraw, report, no-run, recorded, decided, useful-in, planned, step, replayed}
+use Rattle.plan.specs.Plan.{among, useful-in, planned}
+use Rattle.queue.specs.Queue.{Event, submit, withdraw, report, no-run, recorded, decided, step, replayed}
 use Rattle.promises.specs.Day.{blank, reported-by, logged, said-good}
 use Rattle.promises.specs.Promises.{Every-state-tested}
 use Rattle.promises.proofs.Basics.{both-left, both-right, line-with, all-kept}
-use Rattle.promises.proofs.Pass.{Vouched, same-run-refl, says, good-passes, pass-all}
+use Rattle.promises.proofs.Pass.{Vouched, says, good-passes, pass-all}
 use Rattle.promises.proofs.Days.{log-keeps}
 
 -- each of the list passed on top of those before it

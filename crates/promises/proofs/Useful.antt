@@ -12,6 +12,7 @@ use Rattle.std.specs.shelf.Lists.{All}
 use Rattle.std.specs.Options.{isSome}
 use Rattle.std.specs.declared.option.Option.the-variants.{Some}
 use Rattle.change.proofs.Changes.{line-append, length-line-le}
+use Rattle.run.proofs.Compared.{same-run-true}
 use Rattle.change.specs.Change.{part-limit, most-parts, Change, has, line, numbered, fault-from, fault}
 use Rattle.run.specs.Run.{Run, same-run, run-on, runs-on}
 use Rattle.plan.specs.Plan.{useful, among}
@@ -19,7 +20,6 @@ use Rattle.queue.specs.Queue.{proper}
 use Rattle.promises.specs.Day.{Different, parts-in, Ahead-by}
 use Rattle.promises.proofs.Basics.{clash, not-so, neither-left, neither-right, both-left, both-right, Off, off-sym, line-off, has-head, has-tail}
 use Rattle.promises.proofs.Serial.{Alike, alike-push, off-swap, Apart}
-use Rattle.promises.proofs.Pass.{same-run-is}
 use Rattle.promises.proofs.Runs.{among-head, among-left, among-right, among-cases, Sub}
 
 -- lists of numbers without repeats
@@ -145,7 +145,7 @@ runs-last b n [] r e = absurd (true≢false (sym e))
 runs-last b n (p ∷ ps) r e = go (runs-last b n ps r) (same-run r (run-on b n p)) refl e
   where
     go : (among r (runs-on b n ps) ≡ true → n ≡ last r) → (t : Bool) → same-run r (run-on b n p) ≡ t → (t || among r (runs-on b n ps)) ≡ true → n ≡ last r
-    go ih true j h = sym (ap last (same-run-is r (run-on b n p) j) ∙ last-push 0 (line p b) n)
+    go ih true j h = sym (ap last (same-run-true r (run-on b n p) j) ∙ last-push 0 (line p b) n)
     go ih false j h = ih h
 
 pub useful-last : (n : ℕ) (cs b : List Change) (r : Run) → among r (useful n b cs) ≡ true → numbered (last r) cs ≡ true
@@ -164,7 +164,7 @@ runs-part b n (p ∷ ps) r e = go (runs-part b n ps r) (same-run r (run-on b n p
   where
     go : (among r (runs-on b n ps) ≡ true → has ps (r .part) ≡ true) → (t : Bool) → same-run r (run-on b n p) ≡ t → (t || among r (runs-on b n ps)) ≡ true →
         (eqb p (r .part) || has ps (r .part)) ≡ true
-    go ih true j h = ap (λ (t : Bool). t || has ps (r .part)) (eq-eqb p (r .part) (sym (ap (λ (s : Run). s .part) (same-run-is r (run-on b n p) j))))
+    go ih true j h = ap (λ (t : Bool). t || has ps (r .part)) (eq-eqb p (r .part) (sym (ap (λ (s : Run). s .part) (same-run-true r (run-on b n p) j))))
     go ih false j h = ap (_||_ (eqb p (r .part))) (ih h) ∙ or-true (eqb p (r .part))
 
 -- a change's runs are different ones, since its parts are
@@ -200,7 +200,7 @@ runs-begin L k pre n (p ∷ ps) l r e = go (runs-begin L k pre n ps l r) (same-r
   where
     go : (among r (runs-on (L ++ pre) n ps) ≡ true → Ahead-by L k r) → (b : Bool) → same-run r (run-on (L ++ pre) n p) ≡ b →
         (b || among r (runs-on (L ++ pre) n ps)) ≡ true → Ahead-by L k r
-    go ih true j h = subst (Ahead-by L k) (sym (same-run-is r (run-on (L ++ pre) n p) j)) (run-begins L k pre n p l)
+    go ih true j h = subst (Ahead-by L k) (sym (same-run-true r (run-on (L ++ pre) n p) j)) (run-begins L k pre n p l)
     go ih false j h = ih h
 
 useful-begin-from : (L : List Change) (k n : ℕ) (cs pre : List Change) → length pre + n ≤ k → (r : Run) → among r (useful n (L ++ pre) cs) ≡ true → Ahead-by L k r

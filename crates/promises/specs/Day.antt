@@ -9,8 +9,8 @@ use Rattle.change.specs.Change.{most-parts, Change, line, numbered, dropped}
 use Rattle.run.specs.Run.{Run, Verdict, same-run}
 use Rattle.run.specs.State.{Config, Queue, empty}
 use Rattle.serial.specs.Serial.{Bench}
-use Rattle.plan.specs.Plan.{among, kept}
-use Rattle.queue.specs.Queue.{Event, submit, withdraw, report, accepts, no-run, useful-in, step, after}
+use Rattle.plan.specs.Plan.{among, kept, useful-in}
+use Rattle.queue.specs.Queue.{Event, submit, withdraw, report, accepts, no-run, step, after}
 
 -- what a witness writes down of the events that are taken
 pub record Log : Type 0 where

@@ -13,8 +13,8 @@ use Rattle.run.specs.State.{Config, Queue, empty}
 use Rattle.run.specs.Numbers.{Fits}
 use Rattle.serial.specs.Serial.{Bench, serial-landed, serial-rejected}
 use Rattle.decide.specs.Decide.{any-bad, shares-any}
-use Rattle.plan.specs.Plan.{among}
-use Rattle.queue.specs.Queue.{Event, report, accepts, useful-in, after, replayed}
+use Rattle.plan.specs.Plan.{among, useful-in}
+use Rattle.queue.specs.Queue.{Event, report, accepts, after, replayed}
 use Rattle.promises.specs.Day.{Log, logged, Truthful, said-good, not-waiting, Same-decisions, held, Different, parts-in, Ahead-by, measure, Not-submit, All-taken}
 
 -- THE MAIN PROMISE. If every report that is taken is what the bench says, then the decisions are those of serial testing: take the changes that were

@@ -13,8 +13,8 @@ use Rattle.run.specs.Run.{Run, Verdict, same-list, runs-on}
 use Rattle.run.specs.State.{Config, Queue, empty}
 use Rattle.serial.specs.Serial.{Bench, serial-landed}
 use Rattle.decide.specs.Decide.{any-bad, all-good, decision-by, shares-any, decision, by-decision, Passed}
-use Rattle.plan.specs.Plan.{useful, among, kept, still-running, request}
-use Rattle.queue.specs.Queue.{Event, submit, report, accepts, recorded, with-passed, useful-in, with-runs, step}
+use Rattle.plan.specs.Plan.{useful, among, kept, still-running, request, useful-in, with-runs}
+use Rattle.queue.specs.Queue.{Event, submit, report, accepts, recorded, with-passed, step}
 use Rattle.queue.specs.WorkedDay.{change, run}
 use Rattle.promises.specs.Day.{arrivals-with, reported-by, Truthful, said-good, not-waiting, held}
 

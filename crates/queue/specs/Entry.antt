@@ -9,7 +9,8 @@ use Rattle.std.specs.declared.result.Result.{Result}
 use Rattle.std.specs.declared.result.Result.the-variants.{Ok, Err}
 use Rattle.change.specs.Change.{Change, dropped}
 use Rattle.run.specs.Layout.{running-count, queue-length}
-use Rattle.queue.specs.Queue.{Config, Queue, Event, submit, withdraw, report, empty, join, step}
+use Rattle.run.specs.State.{Config, Queue, empty}
+use Rattle.queue.specs.Queue.{Event, submit, withdraw, report, join, step}
 use Rattle.run.specs.Numbers.{Sections, sections, whole, config-in, landed-in, waiting-in, rejected-in, with-changes, decode, encode}
 use Rattle.queue.specs.Events.{event-by, event-in}
 use Rattle.queue.specs.Refusals.{Check, then, length-check, benches-check, depth-check, front-check, kind-check, refusal, report-kind, withdraw-kind}

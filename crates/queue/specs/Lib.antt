@@ -1,5 +1,3 @@
-pub use Rattle.run.specs.Layout
-pub use Rattle.run.specs.Numbers
 pub mod Queue
 pub mod Events
 pub mod Counted

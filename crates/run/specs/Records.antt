@@ -30,6 +30,10 @@ run-in landed xs = record {
 abbrev pub run-of : List Change → declared.Run → Run
 run-of landed r = record { part = r .part; changes = take (r .begins) (line (r .part) landed) ++ take (r .follows) (r .numbers) }
 
+-- the record of the code's struct: what it begins with is a count, and 0 stands behind the numbers that follow
+abbrev pub row-of : declared.Run → List ℕ
+row-of r = r .part ∷ r .begins ∷ r .follows ∷ fixed most-following (take (r .follows) (r .numbers))
+
 abbrev pub verdict-in : List Change → List ℕ → Verdict
 verdict-in landed xs = record { run = run-in landed xs; good = eqb (getD xs run-width 0) 1 }
 

@@ -1,6 +1,7 @@
 // Runs and verdicts, and what is known of a run.
 mod known;
 mod layout;
+mod methods;
 mod records;
 mod run;
 
@@ -29,7 +30,11 @@ pub use layout::VERDICTS_COUNT;
 pub use layout::WAITING_AT;
 pub use layout::WAITING_COUNT;
 pub use layout::numbers_of_layout;
+pub use methods::run_on_top;
 pub use records::RUN_WIDTH;
 pub use records::VERDICT_WIDTH;
+pub use records::read_run;
+pub use records::write_run;
+pub use records::write_verdict;
 pub use run::MOST_FOLLOWING;
 pub use run::Run;

@@ -1,0 +1,5 @@
+pub mod Days
+pub mod Events
+pub mod Padding
+pub mod Texts
+pub mod Writing

@@ -1,0 +1,4 @@
+pub mod Day
+pub mod DayFile
+pub mod Text
+pub mod WorkedDay
