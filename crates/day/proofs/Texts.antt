@@ -13,9 +13,10 @@ use Rattle.std.specs.declared.fmt.Formatter.{Formatter}
 use Rattle.std.proofs.shelf.Lists.{at-drop-more}
 use Rattle.change.specs.Change.{Change, has, line}
 use Rattle.change.specs.Records.{rows, change-in, changes-in, change-width}
-use Rattle.run.specs.Records.{run-in, runs-in, most-following}
-use Rattle.queue.specs.Layout.{landed-count, waiting-count, rejected-count, running-count, requested-at, landed-at, waiting-at, rejected-at, running-at}
-use Rattle.queue.specs.Numbers.{decode}
+use Rattle.run.specs.Records.{run-in, runs-in}
+use Rattle.run.specs.Limits.{most-following}
+use Rattle.run.specs.Layout.{landed-count, waiting-count, rejected-count, running-count, requested-at, landed-at, waiting-at, rejected-at, running-at}
+use Rattle.run.specs.Numbers.{decode}
 use Rattle.day.specs.Text.{change-text, changes-text, run-text, line-text, some, Begun}
 use Rattle.day.proofs.Writing.{Sofar, sofar-more, sofar-all}
 

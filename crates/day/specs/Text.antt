@@ -9,7 +9,7 @@ use Rattle.std.specs.Written.{Plain, Put, decimal}
 use Rattle.std.specs.declared.fmt.Formatter.{Formatter}
 use Rattle.change.specs.Change.{Change}
 use Rattle.run.specs.Run.{Run}
-use Rattle.queue.specs.Queue.{Queue}
+use Rattle.run.specs.State.{Queue}
 use Rattle.queue.specs.Refusals.{refusal-code}
 use Rattle.queue.specs.declared.reply.Refusal.{Refusal}
 use Rattle.queue.specs.declared.reply.Reply.{Reply}

@@ -4,8 +4,9 @@ use mathlib.Core.List.{List, [], _∷_, _++_, map}
 use Prim.Native.Nat.{ℕ}
 use lib.Chars.{codes}
 use lib.ListN.{take}
-use Rattle.queue.specs.Numbers.{event-in}
-use Rattle.queue.specs.Queue.{empty, replayed}
+use Rattle.queue.specs.Events.{event-in}
+use Rattle.run.specs.State.{empty}
+use Rattle.queue.specs.Queue.{replayed}
 use Rattle.queue.specs.WorkedDay.{two-three, worked}
 use Rattle.day.specs.DayFile.{events-in}
 use Rattle.day.specs.Text.{line-text}

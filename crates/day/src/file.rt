@@ -6,7 +6,7 @@ ghost use Rattle.change.specs.Change.{most-parts};
 ghost use Rattle.change.specs.Records.{fixed};
 ghost use Rattle.day.specs.DayFile.{config-read, next-event, number-read, submission, withdrawal, report};
 use change::MOST_PARTS;
-use queue::EVENT_LENGTH;
+use run::EVENT_LENGTH;
 
 pub const CONFIG_BYTES: usize = 2;
 

@@ -1,11 +1,12 @@
 -- Which runs are useful, which are kept, and which are requested. Assumes nothing: these are definitions.
 use mathlib.Core.Bool.{Bool, true, false, cond, _||_, _&&_, not}
 use mathlib.Core.List.{List, [], _∷_, _++_}
-use Prim.Native.Nat.{ℕ, zero, suc}
+use Prim.Native.Nat.{ℕ, zero, suc, _+_, _-_}
 use lib.Dec.{ltb}
 use lib.ListN.{length}
 use Rattle.change.specs.Change.{Change}
 use Rattle.run.specs.Run.{Run, Verdict, same-run, heard, is-unknown, runs-on}
+use Rattle.run.specs.State.{Config, Queue}
 
 -- for each of the first `depth` changes that wait, each of its parts with all before it (landed, then waiting) and the change
 unfoldable pub useful : ℕ → List Change → List Change → List Run
@@ -39,3 +40,25 @@ unfoldable pub request : ℕ → List Verdict → List Run → List Run → List
 request benches vs running [] = running
 request benches vs running (u ∷ us) =
     request benches vs (cond (ltb (length running) benches && lacks vs running u) (running ++ u ∷ []) running) us
+
+abbrev pub useful-in : Config → Queue → List Run
+useful-in t q = useful (t .depth) (q .landed) (q .waiting)
+
+-- these verdicts are held, of these runs that still run, and these run now
+abbrev pub with-runs : Queue → List Verdict → List Run → List Run → Queue
+with-runs q vs still running = record {
+  landed = q .landed;
+  waiting = q .waiting;
+  rejected = q .rejected;
+  verdicts = vs;
+  running = running;
+  requested = q .requested + (length running - length still);
+}
+
+-- what is not useful is cancelled and dropped, then useful runs are requested while a bench is free
+unfoldable pub planned : Config → Queue → Queue
+planned t q =
+    let us = useful-in t q in
+    let vs = still-known us (q .verdicts) in
+    let still = still-running us (q .running) in
+    with-runs q vs still (request (t .benches) vs still us)

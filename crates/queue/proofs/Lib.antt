@@ -1,5 +1,3 @@
-pub mod Sections
-pub mod Round
 pub mod Searches
 pub mod Recorded
 pub mod Replies

@@ -7,9 +7,9 @@ use lib.ListN.{length, replicate, set}
 use Rattle.std.proofs.shelf.Lists.{append-assoc, replicate-append-replicate}
 use Rattle.change.specs.Records.{change-row, change-width, table}
 use Rattle.run.specs.Records.{run-row, run-width, verdict-row, verdict-width}
-use Rattle.queue.specs.Layout.{most-landed, most-waiting, most-rejected, most-verdicts, most-running, benches-at, depth-at, queue-length}
-use Rattle.queue.specs.Queue.{empty}
-use Rattle.queue.specs.Numbers.{encode}
+use Rattle.run.specs.Layout.{most-landed, most-waiting, most-rejected, most-verdicts, most-running, benches-at, depth-at, queue-length}
+use Rattle.run.specs.State.{empty}
+use Rattle.run.specs.Numbers.{encode}
 use Rattle.queue.specs.Entry.{config}
 
 -- a section that holds nothing is 0 everywhere

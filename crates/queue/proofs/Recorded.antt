@@ -18,13 +18,13 @@ use Rattle.change.specs.Records.{change-in, change-row, change-width, changes-i
 use Rattle.change.proofs.Rows.{length-rows}
 use Rattle.change.proofs.Changes.{length-change-row}
 use Rattle.change.proofs.Tables.{length-table, table-push, table-out}
-use Rattle.queue.specs.Layout.{most-landed, most-waiting, most-rejected, benches-at, depth-at, landed-count, waiting-count, rejected-count, verdicts-count, running-count, requested-at, landed-at, waiting-at, rejected-at, queue-length}
-use Rattle.queue.specs.Numbers.{Sections, sections, whole, landed-in, waiting-in, rejected-in, changes-section}
+use Rattle.run.specs.Layout.{most-landed, most-waiting, most-rejected, benches-at, depth-at, landed-count, waiting-count, rejected-count, verdicts-count, running-count, requested-at, landed-at, waiting-at, rejected-at, queue-length}
+use Rattle.run.specs.Numbers.{Sections, sections, whole, landed-in, waiting-in, rejected-in, changes-section}
 use Rattle.queue.specs.Counted.{Counted}
 use Rattle.queue.specs.Entry.{recorded-sections}
 use Rattle.queue.specs.declared.counts.Counts.{Counts}
-use Rattle.queue.proofs.Sections.{Sized, counters-as, landed-as, waiting-as, rejected-as, put-landed, put-waiting, put-rejected, set-counter, get-counter, whole-sections, sized-sections, sections-whole}
-use Rattle.queue.proofs.Round.{change-records, rows-section}
+use Rattle.run.proofs.Sections.{Sized, counters-as, landed-as, waiting-as, rejected-as, put-landed, put-waiting, put-rejected, set-counter, get-counter, whole-sections, sized-sections, sections-whole}
+use Rattle.run.proofs.Round.{change-records, rows-section}
 
 -- a section of changes is as long as it should be
 pub section-long : (most : ℕ) (cs : List Change) → length cs ≤ most → length (changes-section most cs) ≡ change-width * most
@@ -38,6 +38,16 @@ section-anew at most n k xs part ys long is e few h =
     let l : length part ≡ change-width * most = ap length is ∙ length-take-le (change-width * most) (drop at xs) enough in
     let r : changes-in n part ≡ changes-in k (drop at xs) = ap (changes-in n) is ∙ (rows-section change-records n (change-width * most) (drop at xs) (omega arith) enough ∙ ap (λ u. changes-in u (drop at xs)) e) in
     h ∙ (λ i. table change-row (l i) (r i))
+
+-- as many changes are read as the counts say
+count-landed : (xs : List ℕ) → length (landed-in xs) ≡ getD xs landed-count 0
+count-landed xs = length-rows change-in change-width (getD xs landed-count 0) (drop landed-at xs)
+
+count-waiting : (xs : List ℕ) → length (waiting-in xs) ≡ getD xs waiting-count 0
+count-waiting xs = length-rows change-in change-width (getD xs waiting-count 0) (drop waiting-at xs)
+
+count-rejected : (xs : List ℕ) → length (rejected-in xs) ≡ getD xs rejected-count 0
+count-rejected xs = length-rows change-in change-width (getD xs rejected-count 0) (drop rejected-at xs)
 
 -- the counters, one by one
 counters-are : (xs : List ℕ) → queue-length ≤ length xs →
@@ -72,15 +82,15 @@ tidied xs ls ws rs n m k long ln lm lk fn fm fk hl hw hr =
     let x₂ : List ℕ = putMid waiting-at (change-width * most-waiting) x₁ ws in
     let el : ls ≡ changes-section most-landed (landed-in xs) = section-anew landed-at most-landed n (getD xs landed-count 0) xs (sections xs .landed) ls (omega arith) refl ln fn hl in
     let s₁ : Sections = landed-as ls s₀ in
-    let z₁ : Sized s₁ = sized-landed s₀ ls z₀ (ap length el ∙ section-long most-landed (landed-in xs) (omega (arith, length-rows change-in change-width (getD xs landed-count 0) (drop landed-at xs)))) in
+    let z₁ : Sized s₁ = sized-landed s₀ ls z₀ (ap length el ∙ section-long most-landed (landed-in xs) (omega (arith, count-landed xs))) in
     let e₁ : x₁ ≡ whole s₁ = ap (λ l. putMid landed-at (change-width * most-landed) l ls) (sym (whole-sections xs)) ∙ put-landed s₀ ls z₀ in
     let ew : ws ≡ changes-section most-waiting (waiting-in xs) = section-anew waiting-at most-waiting m (getD xs waiting-count 0) xs (sections x₁ .waiting) ws (omega arith) (waiting-part x₁ s₁ z₁ e₁) lm fm hw in
     let s₂ : Sections = waiting-as ws s₁ in
-    let z₂ : Sized s₂ = sized-waiting s₁ ws z₁ (ap length ew ∙ section-long most-waiting (waiting-in xs) (omega (arith, length-rows change-in change-width (getD xs waiting-count 0) (drop waiting-at xs)))) in
+    let z₂ : Sized s₂ = sized-waiting s₁ ws z₁ (ap length ew ∙ section-long most-waiting (waiting-in xs) (omega (arith, count-waiting xs))) in
     let e₂ : x₂ ≡ whole s₂ = ap (λ l. putMid waiting-at (change-width * most-waiting) l ws) e₁ ∙ put-waiting s₁ ws z₁ in
     let er : rs ≡ changes-section most-rejected (rejected-in xs) = section-anew rejected-at most-rejected k (getD xs rejected-count 0) xs (sections x₂ .rejected) rs (omega arith) (rejected-part x₂ s₂ z₂ e₂) lk fk hr in
-    let count : getD xs waiting-count 0 ≡ length (waiting-in xs) = sym (length-rows change-in change-width (getD xs waiting-count 0) (drop waiting-at xs)) in
-    let counters : s₀ .counters ≡ recorded-sections xs (waiting-in xs) .counters = counters-are xs long ∙ ap (λ u. getD xs benches-at 0 ∷ getD xs depth-at 0 ∷ getD xs landed-count 0 ∷ u ∷ getD xs rejected-count 0 ∷ getD xs verdicts-count 0 ∷ getD xs running-count 0 ∷ getD xs requested-at 0 ∷ []) count in
+    let counters : s₀ .counters ≡ recorded-sections xs (waiting-in xs) .counters =
+    counters-are xs long ∙ (λ i. getD xs benches-at 0 ∷ getD xs depth-at 0 ∷ sym (count-landed xs) i ∷ sym (count-waiting xs) i ∷ sym (count-rejected xs) i ∷ getD xs verdicts-count 0 ∷ getD xs running-count 0 ∷ getD xs requested-at 0 ∷ []) in
     ap (λ l. putMid rejected-at (change-width * most-rejected) l rs) e₂
     ∙ (put-rejected s₂ rs z₂
     ∙ (λ i. whole (record { counters = counters i; landed = el i; waiting = ew i; rejected = er i; verdicts = s₀ .verdicts; running = s₀ .running; behind = s₀ .behind })))
@@ -89,9 +99,9 @@ tidied xs ls ws rs n m k long ln lm lk fn fm fk hl hw hr =
 sized-recorded : (xs : List ℕ) (ws : List Change) → queue-length ≤ length xs → getD xs landed-count 0 ≤ most-landed → length ws ≤ most-waiting → getD xs rejected-count 0 ≤ most-rejected → Sized (recorded-sections xs ws)
 sized-recorded xs ws long fl fw fr = record {
   counters = refl;
-  landed = section-long most-landed (landed-in xs) (omega (arith, length-rows change-in change-width (getD xs landed-count 0) (drop landed-at xs)));
+  landed = section-long most-landed (landed-in xs) (omega (arith, count-landed xs));
   waiting = section-long most-waiting ws fw;
-  rejected = section-long most-rejected (rejected-in xs) (omega (arith, length-rows change-in change-width (getD xs rejected-count 0) (drop rejected-at xs)));
+  rejected = section-long most-rejected (rejected-in xs) (omega (arith, count-rejected xs));
   verdicts = sized-sections xs long .verdicts;
   running = sized-sections xs long .running;
 }
@@ -100,11 +110,11 @@ sized-recorded xs ws long fl fw fr = record {
 pub sized-counted : (xs : List ℕ) (n : Counts) → queue-length ≤ length xs → Counted xs n → Sized (recorded-sections xs (waiting-in xs))
 sized-counted xs n long e =
     sized-recorded xs (waiting-in xs) long (omega (arith, e .landed, n .«few_landed»))
-    (omega (arith, e .waiting, n .«few_waiting», length-rows change-in change-width (getD xs waiting-count 0) (drop waiting-at xs))) (omega (arith, e .rejected, n .«few_rejected»))
+    (omega (arith, e .waiting, n .«few_waiting», count-waiting xs)) (omega (arith, e .rejected, n .«few_rejected»))
 
 -- as many wait as the count says
 pub length-waiting : (xs : List ℕ) (n : ℕ) → n ≡ getD xs waiting-count 0 → n ≡ length (waiting-in xs)
-length-waiting xs n e = e ∙ sym (length-rows change-in change-width (getD xs waiting-count 0) (drop waiting-at xs))
+length-waiting xs n e = e ∙ sym (count-waiting xs)
 
 -- those that wait are written over, and then their count
 pub waiting-recorded : (xs ys zs : List ℕ) (ws vs : List Change) (n : ℕ) → Sized (recorded-sections xs ws) → ys ≡ whole (recorded-sections xs ws) →
@@ -119,7 +129,7 @@ waiting-recorded xs ys zs ws vs n z e h count =
   where
     recorded-as : List ℕ → ℕ → Sections
     recorded-as zs n = record {
-      counters = getD xs benches-at 0 ∷ getD xs depth-at 0 ∷ getD xs landed-count 0 ∷ n ∷ getD xs rejected-count 0 ∷ getD xs verdicts-count 0 ∷ getD xs running-count 0 ∷ getD xs requested-at 0 ∷ [];
+      counters = getD xs benches-at 0 ∷ getD xs depth-at 0 ∷ length (landed-in xs) ∷ n ∷ length (rejected-in xs) ∷ getD xs verdicts-count 0 ∷ getD xs running-count 0 ∷ getD xs requested-at 0 ∷ [];
       landed = changes-section most-landed (landed-in xs);
       waiting = zs;
       rejected = changes-section most-rejected (rejected-in xs);

@@ -13,7 +13,7 @@ use Rattle.std.specs.declared.option.Option.the-variants.{Some, None}
 use Rattle.change.specs.Change.{Change, line, numbered, place-of}
 use Rattle.change.specs.Records.{changes-in}
 use Rattle.change.proofs.Changes.{place-numbered}
-use Rattle.queue.specs.Numbers.{landed-in, waiting-in, rejected-in}
+use Rattle.run.specs.Numbers.{landed-in, waiting-in, rejected-in}
 use Rattle.queue.specs.Refusals.{over, overlong, unless, number-check, waits-check}
 use Rattle.queue.specs.declared.reply.Refusal.the-variants.{NumberUsed, NotWaiting}
 

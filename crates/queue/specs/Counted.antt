@@ -3,7 +3,7 @@ use mathlib.Core.Path.{_≡_}
 use mathlib.Core.List.{List}
 use Prim.Native.Nat.{ℕ}
 use lib.ListN.{getD}
-use Rattle.queue.specs.Layout.{landed-count, waiting-count, rejected-count, verdicts-count, running-count}
+use Rattle.run.specs.Layout.{landed-count, waiting-count, rejected-count, verdicts-count, running-count}
 use Rattle.queue.specs.declared.counts.Counts.{Counts}
 use Rattle.queue.specs.declared.kind.Kind.{Kind}
 use Rattle.queue.specs.declared.kind.Kind.the-variants.{Submit, Withdraw}

@@ -8,9 +8,11 @@ use Rattle.std.specs.declared.option.Option.the-variants.{Some, None}
 use Rattle.std.specs.declared.result.Result.{Result}
 use Rattle.std.specs.declared.result.Result.the-variants.{Ok, Err}
 use Rattle.change.specs.Change.{Change, dropped}
-use Rattle.queue.specs.Layout.{most-landed, most-waiting, most-rejected, benches-at, depth-at, landed-count, rejected-count, verdicts-count, running-count, requested-at, queue-length}
-use Rattle.queue.specs.Queue.{Config, Queue, Event, submit, withdraw, report, empty, join, step}
-use Rattle.queue.specs.Numbers.{Sections, sections, whole, config-in, landed-in, waiting-in, rejected-in, changes-section, decode, encode, event-by, event-in}
+use Rattle.run.specs.Layout.{running-count, queue-length}
+use Rattle.run.specs.State.{Config, Queue, empty}
+use Rattle.queue.specs.Queue.{Event, submit, withdraw, report, join, step}
+use Rattle.run.specs.Numbers.{Sections, sections, whole, config-in, landed-in, waiting-in, rejected-in, with-changes, decode, encode}
+use Rattle.queue.specs.Events.{event-by, event-in}
 use Rattle.queue.specs.Refusals.{Check, then, length-check, benches-check, depth-check, front-check, kind-check, refusal, report-kind, withdraw-kind}
 use Rattle.queue.specs.declared.reply.Refusal.{Refusal}
 use Rattle.queue.specs.declared.reply.Reply.{Reply}
@@ -48,17 +50,9 @@ waiting-after (submit c) ws = join c ws
 waiting-after (withdraw n) ws = dropped n ws
 waiting-after (report i g) ws = ws
 
--- the numbers once a submission or a withdrawal was recorded: changes as a state is written, verdicts and running as they stood
+-- the numbers once a submission or a withdrawal was recorded
 abbrev pub recorded-sections : List ℕ → List Change → Sections
-recorded-sections xs ws = record {
-  counters = getD xs benches-at 0 ∷ getD xs depth-at 0 ∷ getD xs landed-count 0 ∷ length ws ∷ getD xs rejected-count 0 ∷ getD xs verdicts-count 0 ∷ getD xs running-count 0 ∷ getD xs requested-at 0 ∷ [];
-  landed = changes-section most-landed (landed-in xs);
-  waiting = changes-section most-waiting ws;
-  rejected = changes-section most-rejected (rejected-in xs);
-  verdicts = sections xs .verdicts;
-  running = sections xs .running;
-  behind = sections xs .behind;
-}
+recorded-sections xs ws = with-changes xs (landed-in xs) ws (rejected-in xs)
 
 -- an event of this kind that is taken
 abbrev pub recorded-kind : ℕ → List ℕ → List ℕ → Reply × List ℕ

@@ -1,6 +1,5 @@
-pub mod Layout
 pub mod Queue
-pub mod Numbers
+pub mod Events
 pub mod Counted
 pub mod Refusals
 pub mod Entry

@@ -1,31 +1,16 @@
--- The merge queue on records: its state, its events, and the step. Assumes nothing: these are definitions.
+-- The merge queue on records: its events, and the step. Assumes nothing: these are definitions.
 use mathlib.Core.Bool.{Bool, true, false, cond, _||_, _&&_, not}
 use mathlib.Core.List.{List, [], _∷_, _++_}
-use Prim.Native.Nat.{ℕ, _+_, _-_}
+use Prim.Native.Nat.{ℕ, _+_}
 use lib.Dec.{ltb}
 use lib.ListN.{length, getD}
 use Rattle.std.specs.Options.{isSome}
 use Rattle.change.specs.Change.{Change, numbered, dropped, without, fault}
-use Rattle.run.specs.Run.{Run, Verdict}
+use Rattle.run.specs.Run.{Run}
+use Rattle.run.specs.State.{Config, Queue}
 use Rattle.decide.specs.Decide.{Passed, pass}
-use Rattle.plan.specs.Plan.{useful, still-running, still-known, request}
-use Rattle.queue.specs.Layout.{most-landed, most-waiting, most-rejected}
-
--- how many runs run at once, and how many of those that wait are looked at
-pub record Config : Type 0 where
-  pub benches : ℕ
-  pub depth : ℕ
-
-pub record Queue : Type 0 where
-  pub landed : List Change
-  pub waiting : List Change  -- in the order of their arrival
-  pub rejected : List Change
-  pub verdicts : List Verdict  -- those that are still useful
-  pub running : List Run  -- in the order of their request
-  pub requested : ℕ  -- how many runs were requested in all
-
-abbrev pub empty : Queue
-empty = record { landed = []; waiting = []; rejected = []; verdicts = []; running = []; requested = 0 }
+use Rattle.plan.specs.Plan.{planned}
+use Rattle.run.specs.Layout.{most-landed, most-waiting, most-rejected}
 
 -- a change is submitted; the change of a number is withdrawn; the run at a place among those running was good or bad
 pub data Event : Type 0 where
@@ -103,28 +88,6 @@ with-passed q s = record {
 -- what can be decided is decided
 unfoldable pub decided : Queue → Queue
 decided q = with-passed q (pass (q .verdicts) [] (q .landed) (q .rejected) (q .waiting))
-
-abbrev pub useful-in : Config → Queue → List Run
-useful-in t q = useful (t .depth) (q .landed) (q .waiting)
-
--- these verdicts are held, of these runs that still run, and these run now
-abbrev pub with-runs : Queue → List Verdict → List Run → List Run → Queue
-with-runs q vs still running = record {
-  landed = q .landed;
-  waiting = q .waiting;
-  rejected = q .rejected;
-  verdicts = vs;
-  running = running;
-  requested = q .requested + (length running - length still);
-}
-
--- what is not useful is cancelled and dropped, then useful runs are requested while a bench is free
-unfoldable pub planned : Config → Queue → Queue
-planned t q =
-    let us = useful-in t q in
-    let vs = still-known us (q .verdicts) in
-    let still = still-running us (q .running) in
-    with-runs q vs still (request (t .benches) vs still us)
 
 -- an event that is taken is recorded, what can be decided is decided, and runs are requested
 unfoldable pub step : Config → Queue → Event → Queue

@@ -11,10 +11,11 @@ use Rattle.std.specs.declared.result.Result.{Result}
 use Rattle.std.specs.declared.result.Result.the-variants.{Ok, Err}
 use Rattle.change.specs.Change.{Change, most-parts, line, numbered, fault}
 use Rattle.change.specs.Records.{change-in, change-width}
-use Rattle.run.specs.Records.{run-width, verdict-width, most-following}
-use Rattle.queue.specs.Layout.{most-landed, most-waiting, most-rejected, most-verdicts, most-running, most-benches, most-depth, number-limit, benches-at, depth-at, landed-count, waiting-count, rejected-count, verdicts-count, running-count, requested-at, landed-at, waiting-at, rejected-at, verdicts-at, running-at, queue-length, event-length}
+use Rattle.run.specs.Records.{run-width, verdict-width}
+use Rattle.run.specs.Limits.{most-following}
+use Rattle.run.specs.Layout.{most-landed, most-waiting, most-rejected, most-verdicts, most-running, most-benches, most-depth, number-limit, benches-at, depth-at, landed-count, waiting-count, rejected-count, verdicts-count, running-count, requested-at, landed-at, waiting-at, rejected-at, verdicts-at, running-at, queue-length, event-length}
 use Rattle.queue.specs.Queue.{used}
-use Rattle.queue.specs.Numbers.{landed-in, waiting-in, rejected-in}
+use Rattle.run.specs.Numbers.{landed-in, waiting-in, rejected-in}
 use Rattle.queue.specs.declared.reply.Refusal.{Refusal}
 use Rattle.queue.specs.declared.reply.Refusal.the-variants.{Malformed, Benches, Depth, Event, NumberUsed, Parts, NotWaiting, NotRunning, WaitingFull, LandedFull, RejectedFull, VerdictsFull, RequestsSpent}
 

@@ -6,7 +6,8 @@ use Prim.Native.Nat.{ℕ}
 use lib.ListN.{take}
 use Rattle.change.specs.Change.{Change}
 use Rattle.run.specs.Run.{Run}
-use Rattle.queue.specs.Queue.{Config, Queue, Event, submit, withdraw, report, empty, replayed}
+use Rattle.run.specs.State.{Config, Queue, empty}
+use Rattle.queue.specs.Queue.{Event, submit, withdraw, report, replayed}
 
 abbrev pub change : ℕ → List ℕ → Change
 change n ps = record { number = n; parts = ps }

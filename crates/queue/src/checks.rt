@@ -4,25 +4,22 @@ ghost use Prim.Native.Nat.{_+_, _*_, _≤_, _<_};
 ghost use lib.ListN.{length, getD, drop};
 ghost use Rattle.change.specs.Change.{most-parts, place-of};
 ghost use Rattle.change.specs.Records.{Tallies, change-in, change-of, change-width, changes-in};
-ghost use Rattle.run.specs.Records.{most-following};
+ghost use Rattle.run.specs.Limits.{most-following};
 ghost use Rattle.std.specs.Options.{mapped};
 ghost use Rattle.queue.specs.Counted.{Counted, kind-number};
-ghost use Rattle.queue.specs.Layout.{event-length, landed-at, most-waiting, queue-length, requested-at};
-ghost use Rattle.queue.specs.Numbers.{waiting-in};
+ghost use Rattle.run.specs.Layout.{event-length, landed-at, most-waiting, queue-length, requested-at};
+ghost use Rattle.run.specs.Numbers.{waiting-in};
 ghost use Rattle.queue.specs.Refusals.{Hands, benches-check, check-of, count-check, counts-check, depth-check, event-check, length-check, number-check, over, overlong, parts-check, records-check, requests-check, room-check, runs-check, sums-check, waits-check, withdraw-kind};
 ghost use Rattle.queue.specs.declared.reply.Refusal.the-variants.{Malformed};
 ghost use Rattle.std.specs.declared.option.Option.the-variants.{Some};
 use super::counts::Counts;
 use super::kind::Kind;
-use super::layout::*;
 use super::reply::Refusal;
 use change::CHANGE_WIDTH;
 use change::Change;
 use change::MOST_PARTS;
 use change::PARTS;
-use run::MOST_FOLLOWING;
-use run::RUN_WIDTH;
-use run::VERDICT_WIDTH;
+use run::*;
 
 // The slice is long enough for a queue.
 pub fn check_length(queue: &[u64]) -> Result<usize, Refusal>

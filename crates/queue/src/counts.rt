@@ -1,6 +1,6 @@
 // How many records each section of a checked queue holds.
 ghost use Prim.Native.Nat.{_≤_};
-ghost use Rattle.queue.specs.Layout.{most-landed, most-waiting, most-rejected, most-verdicts, most-running};
+ghost use Rattle.run.specs.Layout.{most-landed, most-waiting, most-rejected, most-verdicts, most-running};
 
 #[derive(Clone, Copy)]
 pub struct Counts {

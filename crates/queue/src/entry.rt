@@ -4,15 +4,15 @@ ghost use Prim.Native.Nat.{_≤_};
 ghost use lib.ListN.{length};
 ghost use Rattle.queue.specs.Counted.{Counted};
 ghost use Rattle.queue.specs.Entry.{Replies, opened, recorded-by, recorded-kind};
-ghost use Rattle.queue.specs.Layout.{event-length, queue-length};
+ghost use Rattle.run.specs.Layout.{event-length, queue-length};
 ghost use Rattle.queue.specs.Refusals.{Hands, check-of, queue-check};
 use super::checks::*;
 use super::counts::Counts;
 use super::kind::Kind;
-use super::layout::*;
 use super::recording;
 use super::reply::Refusal;
 use super::reply::Reply;
+use run::*;
 
 // Writes an empty queue of the config over the slice; what lies behind a queue stays as it was.
 pub fn open(queue: &mut [u64], benches: u64, depth: u64) -> Reply

@@ -1,5 +1,5 @@
 // Theorems about the definitions: the two round trips between a state and its numbers, and the worked day.
-ghost use Rattle.queue.specs.Numbers.{Decode-encode, Encode-decode};
+ghost use Rattle.run.specs.Numbers.{Decode-encode, Encode-decode};
 ghost use Rattle.queue.specs.WorkedDay.{Worked-day};
 
 // Decoding what was encoded gives it back.

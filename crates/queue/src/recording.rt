@@ -6,13 +6,13 @@ ghost use Rattle.change.specs.Change.{dropped, place-of};
 ghost use Rattle.change.specs.Records.{change-of};
 ghost use Rattle.queue.specs.Counted.{Counted};
 ghost use Rattle.queue.specs.Entry.{recorded-sections};
-ghost use Rattle.queue.specs.Layout.{most-waiting, queue-length};
-ghost use Rattle.queue.specs.Numbers.{waiting-in, whole};
+ghost use Rattle.run.specs.Layout.{most-waiting, queue-length};
+ghost use Rattle.run.specs.Numbers.{waiting-in, whole};
 ghost use Rattle.queue.specs.Queue.{join};
 ghost use Rattle.std.specs.declared.option.Option.the-variants.{Some};
 use super::counts::Counts;
-use super::layout::*;
 use change::Change;
+use run::*;
 
 // Writes landed, waiting and rejected as a state is written; verdicts and running stay as they stand.
 fn tidy(queue: &mut [u64], counts: Counts)

@@ -1,4 +1,6 @@
 // What the queue answers to an event.
+ghost use mathlib.Core.Path.{_≡_};
+ghost use Rattle.queue.specs.Refusals.{refusal-code};
 
 // Why an event is turned away. Its number and place are those of the definition `refusal-code`.
 #[derive(Clone, Copy, PartialEq, Eq)]
@@ -37,4 +39,28 @@ pub enum Reply {
     Done(u64),
     // The event was turned away, and the queue is as it was.
     Refused(Refusal),
+}
+
+impl Refusal {
+    // The refusal's number and its place.
+    pub fn code(self) -> (u64, u64)
+        ensures number { λ r. ⌜ r .0 ≡ refusal-code self .number ⌝ }
+        ensures place { λ r. ⌜ r .1 ≡ refusal-code self .place ⌝ }
+    {
+        match self {
+            Refusal::Malformed(place) => (1, place),
+            Refusal::Benches => (2, 0),
+            Refusal::Depth => (3, 1),
+            Refusal::Event => (4, 0),
+            Refusal::NumberUsed(number) => (5, number),
+            Refusal::Parts(place) => (6, place),
+            Refusal::NotWaiting(number) => (7, number),
+            Refusal::NotRunning(place) => (8, place),
+            Refusal::WaitingFull => (9, 0),
+            Refusal::LandedFull => (9, 1),
+            Refusal::RejectedFull => (9, 2),
+            Refusal::VerdictsFull => (10, 0),
+            Refusal::RequestsSpent => (10, 1),
+        }
+    }
 }

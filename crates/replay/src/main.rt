@@ -3,7 +3,7 @@ mod printer;
 
 use printer::Printer;
 use printer::PrinterWrite;
-use queue::QUEUE_LENGTH;
+use run::QUEUE_LENGTH;
 use std::env;
 use std::fmt;
 use std::fs;

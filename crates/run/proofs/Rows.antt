@@ -2,17 +2,19 @@
 use mathlib.Core.Path.{_≡_, refl, sym, ap, _∙_}
 use mathlib.Core.Bool.{Bool, true, false, cond}
 use mathlib.Core.List.{List, [], _∷_, _++_}
-use Prim.Native.Nat.{ℕ, _-_, min}
+use Prim.Native.Nat.{ℕ, _-_, _≤_, min}
 use native.Mathlib.Omega.{arith}
 use lib.Dec.{eqb}
-use lib.ListN.{length, getD, take, drop, length-append, length-drop}
+use lib.ListN.{length, getD, take, drop, length-append, length-drop, take-append-drop}
 use lib.Seq.{take-length}
-use Rattle.std.proofs.shelf.Lists.{append-assoc, drop-at, getD-at, getD-append-left, take-append-le, drop-append-le, length-push}
+use Rattle.std.proofs.shelf.Lists.{append-assoc, drop-at, getD-at, getD-append-left, take-append-le, drop-append-le, length-push, length-take-le}
 use Rattle.change.specs.Change.{Change, line}
 use Rattle.change.specs.Records.{fixed}
 use Rattle.change.proofs.Rows.{Local, length-fixed, take-fixed}
 use Rattle.run.specs.Run.{Run, Verdict}
-use Rattle.run.specs.Records.{most-following, run-width, verdict-width, run-in, verdict-in, run-row, verdict-row, Ahead, Ahead-verdict}
+use Rattle.run.specs.Records.{run-width, verdict-width, run-in, run-of, row-of, verdict-in, run-row, verdict-row, Ahead, Ahead-verdict}
+use Rattle.run.specs.Limits.{most-following}
+use Rattle.run.specs.declared.run.Run as declared
 
 module _ (landed : List Change) where
   pub length-run-row : (r : Run) → length (run-row landed r) ≡ run-width
@@ -71,3 +73,27 @@ module _ (landed : List Change) where
       let r = run-in-local xs ys (omega arith) in
       let g : getD (xs ++ ys) run-width 0 ≡ getD xs run-width 0 = getD-append-left xs ys 0 run-width (omega arith) in
       λ i. record { run = r i; good = eqb (g i) 1 }
+
+  -- the record of the code's struct is that of its run, where it begins with all landed changes of its part
+  pub row-is : (r : declared.Run) → r .begins ≡ length (line (r .part) landed) → r .follows ≤ length (r .numbers) → row-of r ≡ run-row landed (run-of landed r)
+  unfolding run-row
+  row-is r begins few =
+      let L : List ℕ = line (r .part) landed in
+      let F : List ℕ = take (r .follows) (r .numbers) in
+      let e : run-of landed r .changes ≡ L ++ F = ap (λ l. l ++ F) (ap (λ k. take k L) begins ∙ take-length L) in
+      let n : length (run-of landed r .changes) - length L ≡ r .follows = omega (arith, ap length e, length-append L F, length-take-le (r .follows) (r .numbers) few) in
+      let f : drop (length L) (run-of landed r .changes) ≡ F = ap (drop (length L)) e ∙ drop-at L F (length L) refl in
+      λ i. r .part ∷ begins i ∷ sym n i ∷ fixed most-following (sym f i)
+
+  -- and such a run is one that its record can hold
+  pub ahead-is : (r : declared.Run) → r .begins ≡ length (line (r .part) landed) → r .follows ≤ most-following → r .follows ≤ length (r .numbers) → Ahead landed (run-of landed r)
+  ahead-is r begins few long = record {
+    following = take (r .follows) (r .numbers);
+    is = ap (λ l. l ++ take (r .follows) (r .numbers)) (ap (λ k. take k (line (r .part) landed)) begins ∙ take-length (line (r .part) landed));
+    few = omega (arith, length-take-le (r .follows) (r .numbers) long);
+  }
+
+-- a run is in the first numbers of a longer record
+pub run-in-row : (landed : List Change) (xs : List ℕ) (w : ℕ) → run-width ≤ w → w ≤ length xs → run-in landed (take w xs) ≡ run-in landed xs
+run-in-row landed xs w wide long =
+    sym (run-in-local landed (take w xs) (drop w xs) (omega (arith, length-take-le w xs long))) ∙ ap (run-in landed) (take-append-drop w xs)

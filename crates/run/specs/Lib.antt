@@ -1,2 +1,6 @@
+pub mod Limits
 pub mod Run
 pub mod Records
+pub mod Layout
+pub mod State
+pub mod Numbers

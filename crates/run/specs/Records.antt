@@ -7,11 +7,9 @@ use lib.Dec.{eqb}
 use lib.ListN.{length, getD, take, drop}
 use Rattle.change.specs.Change.{Change, line}
 use Rattle.change.specs.Records.{fixed, rows}
+use Rattle.run.specs.Limits.{most-following}
 use Rattle.run.specs.Run.{Run, Verdict}
-
--- a run goes on with at most so many changes behind the landed ones
-abbrev pub most-following : ℕ
-most-following = 16
+use Rattle.run.specs.declared.run.Run as declared
 
 -- a run's record: its part, how many of the part's landed changes it begins with, how many follow, and room for these
 abbrev pub run-width : ℕ
@@ -27,6 +25,14 @@ run-in landed xs = record {
   part = getD xs 0 0;
   changes = take (getD xs 1 0) (line (getD xs 0 0) landed) ++ take (min (getD xs 2 0) most-following) (drop 3 xs);
 }
+
+-- the run that the code's struct says
+abbrev pub run-of : List Change → declared.Run → Run
+run-of landed r = record { part = r .part; changes = take (r .begins) (line (r .part) landed) ++ take (r .follows) (r .numbers) }
+
+-- the record of the code's struct: what it begins with is a count, and 0 stands behind the numbers that follow
+abbrev pub row-of : declared.Run → List ℕ
+row-of r = r .part ∷ r .begins ∷ r .follows ∷ fixed most-following (take (r .follows) (r .numbers))
 
 abbrev pub verdict-in : List Change → List ℕ → Verdict
 verdict-in landed xs = record { run = run-in landed xs; good = eqb (getD xs run-width 0) 1 }

@@ -7,7 +7,8 @@ use lib.ListN.{take}
 use Rattle.std.specs.Joined.{joined}
 use Rattle.std.specs.Written.{decimal, digits}
 use Rattle.change.specs.Change.{Change}
-use Rattle.queue.specs.Queue.{Queue, empty, replayed}
+use Rattle.run.specs.State.{Queue, empty}
+use Rattle.queue.specs.Queue.{replayed}
 use Rattle.queue.specs.WorkedDay.{Shown, shown, numbers, two-three, worked, worked-after}
 use Rattle.day.specs.Text.{change-text, run-text, line-text}
 use Rattle.day.specs.WorkedDay.{worked-line}

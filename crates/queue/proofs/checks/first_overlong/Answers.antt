@@ -5,7 +5,7 @@ use lib.ListN.{drop, getD}
 use Prim.Native.Nat.{_+_}
 use Rattle.std.proofs.shelf.Tests.{le-leb, lt-leb}
 use Rattle.change.specs.Records.{changes-in}
-use Rattle.queue.specs.Layout.{landed-at}
+use Rattle.run.specs.Layout.{landed-at}
 use Rattle.queue.proofs.Searches.{left-more, next-inside, overlong-here, overlong-later}
 use Rattle.queue.proofs.checks.first_overlong.Needs as need
 

@@ -2,7 +2,7 @@ use mathlib.Core.Path.{_≡_}
 use Prim.Native.Nat.{_+_, _-_, _*_}
 use lib.ListN.{drop}
 use Rattle.change.specs.Records.{changes-in}
-use Rattle.queue.specs.Layout.{landed-at}
+use Rattle.run.specs.Layout.{landed-at}
 use Rattle.queue.specs.Refusals.{overlong}
 use Rattle.queue.proofs.checks.first_overlong.Given as given
 

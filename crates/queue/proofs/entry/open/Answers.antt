@@ -4,7 +4,7 @@ use Prim.Native.Nat.{_≤_}
 use native.Mathlib.Omega.{arith}
 use lib.ListN.{length, take, drop, replicate, set}
 use Rattle.std.proofs.shelf.Lists.{length-take-le}
-use Rattle.queue.specs.Layout.{queue-length, benches-at, depth-at}
+use Rattle.run.specs.Layout.{queue-length, benches-at, depth-at}
 use Rattle.queue.specs.declared.reply.Reply.the-variants.{Done}
 use Rattle.queue.proofs.Opened.{opened-is}
 use Rattle.queue.proofs.Replies.{first, next, stops, goes-on}

@@ -1,7 +1,7 @@
 use mathlib.Core.Path.{_≡_, ap, _∙_}
 use mathlib.Core.List.{List, _∷_, [], _++_}
 use lib.ListN.{drop}
-use Rattle.queue.specs.Numbers.{waiting-in, whole}
+use Rattle.run.specs.Numbers.{waiting-in, whole}
 use Rattle.queue.specs.Entry.{recorded-sections}
 use Rattle.queue.specs.declared.reply.Reply.the-variants.{Done}
 use Rattle.queue.proofs.Replies.{first, next, stops, goes-on}

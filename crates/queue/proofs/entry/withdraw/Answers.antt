@@ -1,7 +1,7 @@
 use mathlib.Core.Path.{sym, ap, _∙_}
 use Rattle.std.proofs.shelf.Lists.{getD-drop}
 use Rattle.change.specs.Change.{dropped}
-use Rattle.queue.specs.Numbers.{waiting-in, whole}
+use Rattle.run.specs.Numbers.{waiting-in, whole}
 use Rattle.queue.specs.Entry.{recorded-sections}
 use Rattle.queue.specs.declared.reply.Reply.the-variants.{Done}
 use Rattle.queue.proofs.Replies.{first, next, stops, goes-on}

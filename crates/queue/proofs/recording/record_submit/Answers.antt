@@ -6,7 +6,7 @@ use lib.ListN.{length}
 use Rattle.std.proofs.shelf.Lists.{length-push}
 use Rattle.change.specs.Change.{Change}
 use Rattle.change.specs.Records.{change-of, change-row, change-width, written}
-use Rattle.queue.specs.Numbers.{waiting-in}
+use Rattle.run.specs.Numbers.{waiting-in}
 use Rattle.queue.proofs.Recorded.{sized-counted, length-waiting, waiting-recorded, joined-waiting}
 use Rattle.queue.proofs.recording.record_submit.Needs as need
 

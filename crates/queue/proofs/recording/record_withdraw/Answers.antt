@@ -6,7 +6,7 @@ use borrow.Author.Needs.{needs}
 use lib.ListN.{length}
 use Rattle.change.specs.Change.{Change, dropped}
 use Rattle.change.specs.Records.{change-width, row-out}
-use Rattle.queue.specs.Numbers.{waiting-in}
+use Rattle.run.specs.Numbers.{waiting-in}
 use Rattle.queue.proofs.Recorded.{sized-counted, length-waiting, waiting-recorded, dropped-waiting}
 use Rattle.queue.proofs.recording.record_withdraw.Needs as need
 

@@ -3,7 +3,7 @@ use Prim.Native.Nat.{ℕ, min}
 use lib.ListN.{take}
 use Rattle.std.proofs.Writes.{put-is, put-more}
 use Rattle.change.specs.Records.{changes-in}
-use Rattle.run.specs.Records.{most-following}
+use Rattle.run.specs.Limits.{most-following}
 use Rattle.day.proofs.Texts.{run-is}
 use Rattle.day.proofs.line.RunDisplay.fmt.Needs as need
 

@@ -1,12 +1,12 @@
 // Where everything stands in the lent queue, and how much of it there may be.
 ghost use mathlib.Core.Path.{_≡_};
-ghost use Rattle.queue.specs.Layout.{layout-numbers};
+ghost use Rattle.run.specs.Layout.{layout-numbers};
+use super::records::RUN_WIDTH;
+use super::records::VERDICT_WIDTH;
+use super::run::MOST_FOLLOWING;
 use change::CHANGE_WIDTH;
 use change::MOST_PARTS;
 use change::PART_LIMIT;
-use run::MOST_FOLLOWING;
-use run::RUN_WIDTH;
-use run::VERDICT_WIDTH;
 
 // How many changes can land, wait and be rejected, how many verdicts can be held, how many runs can run.
 pub const MOST_LANDED: usize = 4096;

@@ -3,7 +3,8 @@ use mathlib.Core.List.{List, [], _∷_}
 use Prim.Native.Nat.{ℕ, _+_, _*_, _^_}
 use Rattle.change.specs.Change.{most-parts, part-limit}
 use Rattle.change.specs.Records.{change-width}
-use Rattle.run.specs.Records.{run-width, verdict-width, most-following}
+use Rattle.run.specs.Records.{run-width, verdict-width}
+use Rattle.run.specs.Limits.{most-following}
 
 -- how many changes can land, wait and be rejected, how many verdicts can be held, how many runs can run
 abbrev pub most-landed : ℕ

@@ -1,16 +1,15 @@
 -- The queue as numbers: its sections, what they say, and how a state is written. Assumes nothing: these are definitions.
 use mathlib.Core.Path.{_≡_}
 use mathlib.Core.List.{List, [], _∷_, _++_}
-use Prim.Native.Nat.{ℕ, zero, suc, _+_, _*_, _-_, _≤_, _<_}
-use lib.Dec.{eqb}
+use Prim.Native.Nat.{ℕ, _+_, _*_, _-_, _≤_, _<_}
 use lib.ListN.{length, getD, take, drop, replicate}
 use Rattle.std.specs.shelf.Lists.{All}
-use Rattle.change.specs.Change.{Change, most-parts}
+use Rattle.change.specs.Change.{Change, most-parts, line}
 use Rattle.change.specs.Records.{change-in, changes-in, change-row, change-width, table}
 use Rattle.run.specs.Run.{Run, Verdict}
 use Rattle.run.specs.Records.{run-in, runs-in, verdict-in, verdicts-in, run-row, verdict-row, run-width, verdict-width, Ahead, Ahead-verdict}
-use Rattle.queue.specs.Layout.{most-landed, most-waiting, most-rejected, most-verdicts, most-running, benches-at, depth-at, landed-count, waiting-count, rejected-count, verdicts-count, running-count, requested-at, landed-at, waiting-at, rejected-at, verdicts-at, running-at, queue-length}
-use Rattle.queue.specs.Queue.{Config, Queue, Event, submit, withdraw, report}
+use Rattle.run.specs.Layout.{most-landed, most-waiting, most-rejected, most-verdicts, most-running, benches-at, depth-at, landed-count, waiting-count, rejected-count, verdicts-count, running-count, requested-at, landed-at, waiting-at, rejected-at, verdicts-at, running-at, queue-length}
+use Rattle.run.specs.State.{Config, Queue}
 
 -- the counters, the five sections, and what lies behind the queue in a longer slice
 pub record Sections : Type 0 where
@@ -78,14 +77,33 @@ sections-of t q behind = record {
 unfoldable pub encode : Config → Queue → List ℕ → List ℕ
 encode t q behind = whole (sections-of t q behind)
 
--- the event that eleven numbers say
-abbrev pub event-by : ℕ → List ℕ → Event
-event-by zero xs = submit (change-in xs)
-event-by (suc zero) xs = withdraw (getD xs 0 0)
-event-by (suc (suc k)) xs = report (getD xs 0 0) (eqb (getD xs 1 0) 1)
+-- the numbers with these changes landed, waiting and rejected; verdicts, running and what lies behind stay as they stood
+abbrev pub with-changes : List ℕ → List Change → List Change → List Change → Sections
+with-changes xs landed waiting rejected = record {
+  counters = getD xs benches-at 0 ∷ getD xs depth-at 0 ∷ length landed ∷ length waiting ∷ length rejected ∷ getD xs verdicts-count 0 ∷ getD xs running-count 0 ∷ getD xs requested-at 0 ∷ [];
+  landed = changes-section most-landed landed;
+  waiting = changes-section most-waiting waiting;
+  rejected = changes-section most-rejected rejected;
+  verdicts = sections xs .verdicts;
+  running = sections xs .running;
+  behind = sections xs .behind;
+}
 
-abbrev pub event-in : List ℕ → Event
-event-in xs = event-by (getD xs 0 0) (drop 1 xs)
+-- a record's run begins with no more landed changes than its part has
+abbrev pub Begins : List Change → List ℕ → Type 0
+Begins landed xs = getD xs 1 0 ≤ length (line (getD xs 0 0) landed)
+
+-- numbers that a step works on: changes are written as they read, counts keep to their sections, runs fit what has landed
+pub record Settled (xs : List ℕ) : Type 0 where
+  pub long : queue-length ≤ length xs
+  pub is : xs ≡ whole (with-changes xs (landed-in xs) (waiting-in xs) (rejected-in xs))
+  pub few-landed : getD xs landed-count 0 + getD xs waiting-count 0 ≤ most-landed
+  pub few-waiting : getD xs waiting-count 0 ≤ most-waiting
+  pub few-rejected : getD xs rejected-count 0 + getD xs waiting-count 0 ≤ most-rejected
+  pub few-verdicts : getD xs verdicts-count 0 ≤ most-verdicts
+  pub few-running : getD xs running-count 0 ≤ most-running
+  pub verdicts-fit : (k : ℕ) → k < getD xs verdicts-count 0 → Begins (landed-in xs) (drop (verdicts-at + verdict-width * k) xs)
+  pub running-fit : (k : ℕ) → k < getD xs running-count 0 → Begins (landed-in xs) (drop (running-at + run-width * k) xs)
 
 -- a state that fits its sections
 abbrev pub Small : Change → Type 0

@@ -15,12 +15,12 @@ use Rattle.change.specs.Records.{rows, table, change-in, change-row, change-wid
 use Rattle.change.proofs.Rows.{Local, rows-append, rows-local, length-rows}
 use Rattle.change.proofs.Changes.{length-change-row, read-row, change-in-local}
 use Rattle.change.proofs.Tables.{joined-push, table-is, length-table, rows-table}
 use Rattle.run.specs.Records.{run-in, runs-in, run-row, run-width, verdict-in, verdicts-in, verdict-row, verdict-width, Ahead, Ahead-verdict}
 use Rattle.run.proofs.Rows.{length-run-row, length-verdict-row, read-run-row, read-verdict-row, run-in-local, verdict-in-local}
-use Rattle.queue.specs.Layout.{most-landed, most-waiting, most-rejected, most-verdicts, most-running, benches-at, depth-at, landed-count, waiting-count, rejected-count, verdicts-count, running-count, requested-at, landed-at, waiting-at, rejected-at, verdicts-at, running-at, queue-length}
-use Rattle.queue.specs.Queue.{Config, Queue}
-use Rattle.queue.specs.Numbers.{Sections, sections, whole, config-in, landed-in, waiting-in, rejected-in, sections-of, encode, decode, Small, Fits, Tidy-section, Decode-encode, Encode-decode}
-use Rattle.queue.proofs.Sections.{Sized, sized-sections, whole-sections, sections-whole, get-counter}
+use Rattle.run.specs.Layout.{most-landed, most-waiting, most-rejected, most-verdicts, most-running, benches-at, depth-at, landed-count, waiting-count, rejected-count, verdicts-count, running-count, requested-at, landed-at, waiting-at, rejected-at, verdicts-at, running-at, queue-length}
+use Rattle.run.specs.State.{Config, Queue}
+use Rattle.run.specs.Numbers.{Sections, sections, whole, config-in, landed-in, waiting-in, rejected-in, sections-of, encode, decode, Small, Fits, Tidy-section, Decode-encode, Encode-decode}
+use Rattle.run.proofs.Sections.{Sized, sized-sections, whole-sections, sections-whole, get-counter}
 
 -- records of w numbers, read by f and written by row, that say what was written if P holds of it
 pub record Records {A : Type 0} (f : List ℕ → A) (row : A → List ℕ) (w : ℕ) (P : A → Type 0) : Type 0 where

@@ -8,9 +8,9 @@ use lib.ListN.{length, getD, take, drop, set, length-drop, take-append-drop}
 use lib.Seq.{take-append-add, drop-append-add}
 use Rattle.std.proofs.shelf.Lists.{length-take-le, append-assoc, take-at, drop-at, drop-drop, set-append-left, getD-take}
 use Rattle.change.specs.Records.{change-width}
 use Rattle.run.specs.Records.{run-width, verdict-width}
-use Rattle.queue.specs.Layout.{most-landed, most-waiting, most-rejected, most-verdicts, most-running, landed-at, waiting-at, rejected-at, verdicts-at, running-at, queue-length}
-use Rattle.queue.specs.Numbers.{Sections, sections, whole}
+use Rattle.run.specs.Layout.{most-landed, most-waiting, most-rejected, most-verdicts, most-running, landed-at, waiting-at, rejected-at, verdicts-at, running-at, queue-length}
+use Rattle.run.specs.Numbers.{Sections, sections, whole}
 
 -- each section is as long as the layout says
 pub record Sized (s : Sections) : Type 0 where

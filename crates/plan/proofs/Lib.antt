@@ -1,0 +1,5 @@
+mod Same
+mod Ahead
+mod Among
+mod Kept
+mod Holding

@@ -1,0 +1,5 @@
+use Rattle.promises.proofs.progress.Needs as need
+use Rattle.promises.proofs.Falling.{progress}
+
+pub returns : need.returns
+returns c = progress

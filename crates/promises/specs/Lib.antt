@@ -1,0 +1,4 @@
+pub mod Day
+pub mod Promises
+pub mod Lent
+pub mod Wrong

@@ -1,0 +1,3 @@
+// Tests only: tables of cases, each a queue with something wrong and the refusal that answers.
+#[cfg(test)]
+mod refusals;
