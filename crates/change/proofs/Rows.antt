@@ -77,6 +77,13 @@ rows-split f w n i xs lt =
     let d : drop w (drop (w * i) xs) ≡ drop (w * (i + 1)) xs = drop-drop w (w * i) xs ∙ ap (λ u. drop u xs) (omega (arith, mul-add w i 1)) in
     ap (λ u. rows f w u xs) k ∙ (rows-append f w i (suc (n - (i + 1))) xs ∙ rw d)
 
+-- record i of n ends before all do
+pub record-inside : (w n i : ℕ) → i < n → w * i + w ≤ w * n
+record-inside w n i lt =
+    let k : n ≡ i + (1 + (n - (i + 1))) = omega arith in
+    let m : w * n ≡ w * i + (w + w * (n - (i + 1))) = ap (λ u. w * u) k ∙ omega (arith, mul-add w i (1 + (n - (i + 1))), mul-add w 1 (n - (i + 1))) in
+    omega arith
+
 -- a part in the middle that is written over, of a list in three pieces
 pub put-middle : (p q r zs : List ℕ) (a k : ℕ) → length p ≡ a → length q ≡ k → putMid a k (p ++ (q ++ r)) zs ≡ p ++ (zs ++ r)
 put-middle p q r zs a k e f =
@@ -114,3 +121,39 @@ rows-turned w n i xs ys zs lt le e f =
     let tail : T ≡ drop (w * n) xs = drop-drop (w * n - w * i) (w * i) xs ∙ ap (λ u. drop u xs) (omega arith) in
     let r : take (w * i) xs ++ (ys ++ T) ≡ (take (w * i) xs ++ drop w S) ++ (take w S ++ T) = rw e (simp append-assoc) in
     rw r (put-middle (take (w * i) xs ++ drop w S) (take w S) T zs (w * n - w) (w * n - (w * n - w)) lP lE ∙ (append-assoc (take (w * i) xs) (drop w S) (zs ++ T) ∙ rw (D, f, tail)))
+
+-- of n rows without the i-th, the first n - 1 say what the others said
+pub rows-out : {A : Type 0} (f : List ℕ → A) (w : ℕ) → Local f w → (n i : ℕ) (xs : List ℕ) → i < n → w * n ≤ length xs →
+    rows f w (n - 1) (row-out w n i xs) ≡ take i (rows f w n xs) ++ drop (i + 1) (rows f w n xs)
+rows-out {A} f w loc n i xs lt le =
+    let m : ℕ = n - (i + 1) in
+    let k : n ≡ i + (m + 1) = omega arith in
+    let k1 : n - 1 ≡ i + m = omega arith in
+    let whole : w * n ≡ w * i + (w * m + w) = ap (λ u. w * u) k ∙ omega (arith, mul-add w i (m + 1), mul-add w m 1) in
+    let next : w * (i + 1) ≡ w * i + w = omega (arith, mul-add w i 1) in
+    let lA : length (take (w * i) xs) ≡ w * i = length-take-le (w * i) xs (omega arith) in
+    let lL : length (drop (w * (i + 1)) xs) ≡ length xs - w * (i + 1) = length-drop (w * (i + 1)) xs in
+    let lB : length (take (w * m) (drop (w * (i + 1)) xs)) ≡ w * m = length-take-le (w * m) (drop (w * (i + 1)) xs) (omega arith) in
+    let Z : List ℕ = replicate w 0 ++ drop (w * n) xs in
+    let BZ : List ℕ = take (w * m) (drop (w * (i + 1)) xs) ++ Z in
+    let front : rows f w i (take (w * i) xs ++ BZ) ≡ rows f w i xs = rows-local f w loc i (take (w * i) xs) BZ (omega arith) ∙ rows-take f w loc i (w * i) xs refl (omega arith) in
+    let back : rows f w m BZ ≡ rows f w m (drop (w * (i + 1)) xs) = rows-local f w loc m (take (w * m) (drop (w * (i + 1)) xs)) Z (omega arith) ∙ rows-take f w loc m (w * m) (drop (w * (i + 1)) xs) refl (omega arith) in
+    let seam : drop (w * i) (take (w * i) xs ++ BZ) ≡ BZ = drop-at (take (w * i) xs) BZ (w * i) lA in
+    let left : rows f w (n - 1) (row-out w n i xs) ≡ rows f w i xs ++ rows f w m (drop (w * (i + 1)) xs) =
+    ap (λ u. rows f w u (row-out w n i xs)) k1 ∙ (rows-append f w i m (take (w * i) xs ++ BZ) ∙ rw (seam, front, back)) in
+    let x : A = f (drop (w * i) xs) in
+    let s : rows f w n xs ≡ rows f w i xs ++ x ∷ rows f w m (drop (w * (i + 1)) xs) = rows-split f w n i xs lt in
+    let r = rows f w m (drop (w * (i + 1)) xs) in
+    let t : take i (rows f w n xs) ≡ rows f w i xs = rw s (take-at (rows f w i xs) (x ∷ r) i (length-rows f w i xs)) in
+    let d : drop (i + 1) (rows f w n xs) ≡ r = rw s (sym (drop-drop 1 i (rows f w i xs ++ x ∷ r)) ∙ ap (drop 1) (drop-at (rows f w i xs) (x ∷ r) i (length-rows f w i xs))) in
+    left ∙ rw (t, d)
+
+-- one row more
+pub rows-written : {A : Type 0} (f : List ℕ → A) (w : ℕ) → Local f w → (n k : ℕ) (row xs : List ℕ) → length row ≡ w → k ≡ w * n → k + w ≤ length xs →
+    rows f w (n + 1) (written k row xs) ≡ rows f w n xs ++ f row ∷ []
+rows-written f w loc n k row xs long e le =
+    let l = length-take-le k xs (omega arith) in
+    let front : rows f w n (written k row xs) ≡ rows f w n xs = rows-local f w loc n (take k xs) (row ++ drop (k + length row) xs) (omega arith) ∙ rows-take f w loc n k xs e (omega arith) in
+    let d : drop (w * n) (written k row xs) ≡ row ++ drop (k + length row) xs = drop-at (take k xs) (row ++ drop (k + length row) xs) (w * n) (omega arith) in
+    let h : f (row ++ drop (k + length row) xs) ≡ f row = loc row (drop (k + length row) xs) (omega arith) in
+    rows-append f w n 1 (written k row xs) ∙ rw (front, d, h)

@@ -15,6 +15,7 @@ pub use records::find_number;
 pub use records::number_used;
 pub use records::read_change;
 pub use records::remove_change;
+pub use records::remove_record;
 pub use records::tidy_changes;
 pub use records::write_change;
 pub use tally::PARTS;

@@ -62,15 +62,26 @@ pub fn append_change(section: &mut [u64], n: usize, c: Change)
     );
 }
 
-// Takes record i out of the first n, closes the gap, and leaves 0 in the place of the last.
+// Takes record i out of the first n of this width, closes the gap, and leaves 0 in the place of the last.
+pub fn remove_record(section: &mut [u64], width: usize, n: usize, i: usize)
+    requires there { ⌜ i < n ⌝ }
+    requires within { ⌜ width * n ≤ length (now section) ⌝ }
+    ensures { λ _. ⌜ now (section .exit) ≡ row-out width n i (now (section .entry)) ⌝ }
+{
+    let from = width * i;
+    let end = width * n;
+    let rows = &mut section[from..end];
+    rows.rotate_left(width);
+    let last = &mut section[end - width..end];
+    last.fill(0);
+}
+
+// Takes change i out of the first n.
 pub fn remove_change(section: &mut [u64], n: usize, i: usize)
     requires { ⌜ i < n ⌝ ∗ ⌜ change-width * n ≤ length (now section) ⌝ }
     ensures { λ _. ⌜ now (section .exit) ≡ row-out change-width n i (now (section .entry)) ⌝ }
 {
-    let rows = &mut section[CHANGE_WIDTH * i..CHANGE_WIDTH * n];
-    rows.rotate_left(CHANGE_WIDTH);
-    let last = &mut section[CHANGE_WIDTH * n - CHANGE_WIDTH..CHANGE_WIDTH * n];
-    last.fill(0);
+    remove_record(section, CHANGE_WIDTH, n, i);
 }
 
 // Leaves 0 everywhere.

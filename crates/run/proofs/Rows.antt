@@ -12,7 +12,7 @@ use Rattle.change.specs.Change.{Change, line}
 use Rattle.change.specs.Records.{fixed}
 use Rattle.change.proofs.Rows.{Local, length-fixed, take-fixed}
 use Rattle.run.specs.Run.{Run, Verdict}
-use Rattle.run.specs.Records.{run-width, verdict-width, run-in, run-of, row-of, verdict-in, run-row, verdict-row, Ahead, Ahead-verdict}
+use Rattle.run.specs.Records.{run-width, verdict-width, run-in, run-of, row-of, verdict-row-of, verdict-in, run-row, verdict-row, Ahead, Ahead-verdict}
 use Rattle.run.specs.Limits.{most-following}
 use Rattle.run.specs.declared.run.Run as declared
 
@@ -97,3 +97,8 @@ module _ (landed : List Change) where
 pub run-in-row : (landed : List Change) (xs : List ℕ) (w : ℕ) → run-width ≤ w → w ≤ length xs → run-in landed (take w xs) ≡ run-in landed xs
 run-in-row landed xs w wide long =
     sym (run-in-local landed (take w xs) (drop w xs) (omega (arith, length-take-le w xs long))) ∙ ap (run-in landed) (take-append-drop w xs)
+
+-- the record of a verdict on a run by value is as long as it should be
+pub length-verdict-row-of : (r : declared.Run) (good : Bool) → length (verdict-row-of r good) ≡ verdict-width
+length-verdict-row-of r good =
+    length-push (row-of r) (cond good 1 0) ∙ omega (arith, length-fixed most-following (take (r .follows) (r .numbers)))

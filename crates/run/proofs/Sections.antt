@@ -4,7 +4,7 @@ use mathlib.Core.List.{List, [], _∷_, _++_}
 use Prim.Native.Nat.{ℕ, _+_, _*_, _≤_, _<_}
 use native.Mathlib.Omega.{arith}
 use borrow.Rule.Slice.PartMut.{putMid}
-use lib.ListN.{length, getD, take, drop, set, length-drop, take-append-drop}
+use lib.ListN.{length, getD, take, drop, set, length-drop, length-append, take-append-drop}
 use lib.Seq.{take-append-add, drop-append-add}
 use Rattle.std.proofs.shelf.Lists.{length-take-le, append-assoc, take-at, drop-at, drop-drop, set-append-left, getD-take}
 use Rattle.change.specs.Records.{change-width}
@@ -130,7 +130,7 @@ pub get-counter : (xs : List ℕ) (k : ℕ) → k < landed-at → getD (sections
 get-counter xs k lt = getD-take landed-at xs k 0 lt
 
 -- what stands from a section on is the section and what stands behind it
-cut : (a n b : ℕ) (xs : List ℕ) → b ≡ a + n → take n (drop a xs) ++ drop b xs ≡ drop a xs
+pub cut : (a n b : ℕ) (xs : List ℕ) → b ≡ a + n → take n (drop a xs) ++ drop b xs ≡ drop a xs
 cut a n b xs e = ap (λ l. take n (drop a xs) ++ l) (ap (λ u. drop u xs) e ∙ sym (drop-drop n a xs)) ∙ take-append-drop n (drop a xs)
 
 -- a slice cut into sections is these sections joined
@@ -166,3 +166,14 @@ sections-whole s z =
     let running = take-behind (before-running s) (s .running) _ running-at (run-width * most-running) (running-begins s z) (z .running) in
     let behind = drop-behind (before-behind s) (s .behind) queue-length (behind-begins s z) in
     λ i. record { counters = counters i; landed = landed i; waiting = waiting i; rejected = rejected i; verdicts = verdicts i; running = running i; behind = behind i }
+
+-- sections of the right lengths, joined, are long enough
+pub long-whole : (s : Sections) → Sized s → queue-length ≤ length (whole s)
+long-whole s z =
+    let r₅ : List ℕ = s .running ++ s .behind in
+    let r₄ : List ℕ = s .verdicts ++ r₅ in
+    let r₃ : List ℕ = s .rejected ++ r₄ in
+    let r₂ : List ℕ = s .waiting ++ r₃ in
+    let r₁ : List ℕ = s .landed ++ r₂ in
+    omega
+    (arith, length-append (s .counters) r₁, length-append (s .landed) r₂, length-append (s .waiting) r₃, length-append (s .rejected) r₄, length-append (s .verdicts) r₅, length-append (s .running) (s .behind), z)

@@ -1,6 +1,6 @@
 -- Runs and verdicts as records of the lent queue. Assumes nothing: these are definitions.
 use mathlib.Core.Path.{_≡_}
-use mathlib.Core.Bool.{cond}
+use mathlib.Core.Bool.{Bool, cond}
 use mathlib.Core.List.{List, [], _∷_, _++_}
 use Prim.Native.Nat.{ℕ, _-_, _≤_, min}
 use lib.Dec.{eqb}
@@ -33,6 +33,10 @@ run-of landed r = record { part = r .part; changes = take (r .begins) (line (r .
 -- the record of the code's struct: what it begins with is a count, and 0 stands behind the numbers that follow
 abbrev pub row-of : declared.Run → List ℕ
 row-of r = r .part ∷ r .begins ∷ r .follows ∷ fixed most-following (take (r .follows) (r .numbers))
+
+-- the record of a verdict on it
+abbrev pub verdict-row-of : declared.Run → Bool → List ℕ
+verdict-row-of r good = row-of r ++ cond good 1 0 ∷ []
 
 abbrev pub verdict-in : List Change → List ℕ → Verdict
 verdict-in landed xs = record { run = run-in landed xs; good = eqb (getD xs run-width 0) 1 }

@@ -33,6 +33,7 @@ pub use layout::numbers_of_layout;
 pub use methods::run_on_top;
 pub use records::RUN_WIDTH;
 pub use records::VERDICT_WIDTH;
+pub use records::append_verdict;
 pub use records::read_run;
 pub use records::write_run;
 pub use records::write_verdict;

@@ -1,11 +1,11 @@
 // Runs and verdicts as records of the lent queue.
 ghost use mathlib.Core.Path.{_≡_};
-ghost use mathlib.Core.Bool.{cond};
-ghost use mathlib.Core.List.{List, [], _∷_, _++_};
-ghost use Prim.Native.Nat.{_≤_};
+ghost use mathlib.Core.List.{List};
+ghost use Prim.Native.Nat.{_+_, _*_, _≤_};
 ghost use lib.ListN.{length, getD};
 ghost use Rattle.change.specs.Change as spec;
-ghost use Rattle.run.specs.Records.{row-of, run-in, run-of, run-width, verdict-width};
+ghost use Rattle.change.specs.Records.{written};
+ghost use Rattle.run.specs.Records.{row-of, run-in, run-of, run-width, verdict-row-of, verdict-width};
 use super::run::MOST_FOLLOWING;
 use super::run::Run;
 
@@ -48,8 +48,17 @@ pub fn write_run(row: &mut [u64], r: Run)
 // Writes the run over a verdict's record, and whether it was good.
 pub fn write_verdict(row: &mut [u64], r: Run, good: bool)
     requires { ⌜ length (now row) ≡ verdict-width ⌝ }
-    ensures { λ _. ⌜ now (row .exit) ≡ row-of r ++ cond good 1 0 ∷ [] ⌝ }
+    ensures { λ _. ⌜ now (row .exit) ≡ verdict-row-of r good ⌝ }
 {
     write_run(&mut row[0..RUN_WIDTH], r);
     row[RUN_WIDTH] = if good { 1 } else { 0 };
+}
+
+// Writes a verdict behind the first n of a section.
+pub fn append_verdict(section: &mut [u64], n: usize, r: Run, good: bool)
+    requires { ⌜ verdict-width * (n + 1) ≤ length (now section) ⌝ }
+    ensures { λ _. ⌜ now (section .exit) ≡ written (verdict-width * n) (verdict-row-of r good) (now (section .entry)) ⌝ }
+{
+    let at = VERDICT_WIDTH * n;
+    write_verdict(&mut section[at..at + VERDICT_WIDTH], r, good);
 }
