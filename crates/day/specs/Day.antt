@@ -6,7 +6,6 @@ use Rattle.std.specs.declared.option.Option.{Option}
 use Rattle.std.specs.declared.option.Option.the-variants.{Some, None}
 use Rattle.queue.specs.Entry.{opened, recorded-by}
 use Rattle.run.specs.Numbers.{decode}
-use Rattle.queue.specs.declared.reply.Refusal.{Refusal}
 use Rattle.queue.specs.declared.reply.Reply.{Reply}
 use Rattle.queue.specs.declared.reply.Reply.the-variants.{Done, Refused}
 use Rattle.day.specs.DayFile.{config-read, events-in}
