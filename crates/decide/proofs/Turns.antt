@@ -15,7 +15,7 @@ use Rattle.run.specs.Layout.{landed-count, most-landed, most-rejected, rejected
 use Rattle.run.specs.Numbers.{Settled, Small, decode, landed-in, rejected-in, waiting-in, whole, with-changes}
 use Rattle.run.specs.Records.{verdicts-in}
 use Rattle.run.specs.Run.{Verdict, runs-on}
-use Rattle.run.proofs.Changed.{Fitting, changes-again, count-landed, count-rejected, count-waiting, fitting-settled, landed-changed, rejected-changed, settled-changed, verdicts-changed, waiting-changed}
+use Rattle.run.proofs.Changed.{Fitting, changes-again, count-landed, count-rejected, count-waiting, fitting-settled, landed-changed, rejected-changed, runs-settled, settled-changed, verdicts-changed, waiting-changed}
 use Rattle.decide.specs.Decide.{Passed, by-decision, decision, decision-by, pass, shares-any}
 use Rattle.decide.specs.Passing.{passed-in, with-passed}
 use Rattle.decide.specs.declared.decision.Decision.{Decision}
@@ -151,9 +151,9 @@ module _ (old new : List ℕ) (i : ℕ) (x : Change) (u : Underway old new i) (l
       let again = changes-again new L₁ (without i W) R₁ (h .long) fit zs z in
       let left : getD zs waiting-count 0 + 1 ≡ getD new waiting-count 0 = omega (arith, count-waiting zs, ap length waiting, length-without i W there, count-waiting new) in (
         record {
-          settled = settled-changed new zs ds (without i W) R₁ h fit₁ z₁;
+          settled = settled-changed new zs ds (without i W) R₁ (runs-settled new h) fit₁ z₁;
           few = omega (arith, left);
-          verdicts = verdicts-changed new zs ds (without i W) R₁ h fit₁ z₁ ∙ u .verdicts;
+          verdicts = verdicts-changed new zs ds (without i W) R₁ (runs-settled new h) fit₁ z₁ ∙ u .verdicts;
           count = ap (λ l. getD l verdicts-count 0) z ∙ u .count;
           same = λ L₂ W₂ R₂. again L₂ W₂ R₂ ∙ u .same L₂ W₂ R₂;
           goes-on = (λ j. from (held-verdicts old) i (landed j) (waiting j) (rejected j)) ∙ (sym step ∙ u .goes-on);
@@ -191,7 +191,7 @@ module _ (old new : List ℕ) (i : ℕ) (x : Change) (u : Underway old new i) (l
     taken-out =
         let f = fitting-settled new (u .settled) in
         let e : L ≡ L ++ [] = sym (append-nil L) in (
-          settled-changed new ys [] (without i W) R (u .settled) (subst (λ (l : List Change). Fitting l (without i W) R) e fit-out) (out ∙ ap (λ (l : List Change). whole (with-changes new l (without i W) R)) e),
+          settled-changed new ys [] (without i W) R (runs-settled new (u .settled)) (subst (λ (l : List Change). Fitting l (without i W) R) e fit-out) (out ∙ ap (λ (l : List Change). whole (with-changes new l (without i W) R)) e),
           omega (arith, f .landed, ap length landed-out, count-landed ys, there),
           omega (arith, f .rejected, ap length rejected-out, count-rejected ys, there),
         )
