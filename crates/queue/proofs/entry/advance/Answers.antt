@@ -28,7 +28,7 @@ plan-runs-requires c κs =
 
 pub returns : need.returns
 returns c =
-    let said = says-passed (c .args .queue .now) (c .pass .last .queue) (c .pre .ready .settled) (c .pass .ensures .settled) (c .pass .ensures .passed) in
+    let said = says-passed (c .args .queue .now) (c .pass .last .queue) (c .pass .ensures .settled) (c .pass .ensures .state) (c .pass .ensures .passed) (c .pass .ensures .behind) in
     let is = c .plan-runs .ensures .is ∙ (λ i. encode (said .config i) (planned (said .config i) (said .state i)) (said .behind i)) in
     let running = c .plan-runs .ensures .running ∙ (λ i. length (planned (said .config i) (said .state i) .running)) in
     λ i. (Done (running i), is i)
