@@ -1,4 +1,5 @@
 // The merge queue on lent numbers: opening one, and applying an event to it.
+mod calls;
 mod checked;
 mod checks;
 mod counts;
@@ -8,6 +9,9 @@ mod laws;
 mod recording;
 mod reply;
 
+pub use calls::report;
+pub use calls::submit;
+pub use calls::withdraw;
 pub use entry::apply;
 pub use entry::open;
 pub use laws::decode_of_encode;
