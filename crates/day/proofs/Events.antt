@@ -7,9 +7,8 @@ use native.Mathlib.Omega.{arith}
 use borrow.Author.Tests.{leb-true}
 use lib.Dec.{leb}
 use lib.ListN.{length, getD, drop, length-drop}
-use Rattle.std.specs.declared.option.Option.{Option}
 use Rattle.std.specs.declared.option.Option.the-variants.{Some, None}
-use Rattle.day.specs.DayFile.{Taken, taken, submission, withdrawal, report, of-kind, next-event, followed, events-from, events-of}
+use Rattle.day.specs.DayFile.{Taken, taken, of-kind, next-event, followed, events-from, events-of}
 
 -- an event takes some bytes, and no more than there are
 abbrev pub Fits : List ℕ → ℕ × List ℕ → Type 0

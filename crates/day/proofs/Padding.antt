@@ -1,19 +1,19 @@
 -- A list that is padded with 0 to a fixed length, one element after another. Assumes nothing.
-use mathlib.Core.Path.{_≡_, refl, sym, ap, _∙_}
+use mathlib.Core.Path.{_≡_, sym, ap, _∙_}
 use mathlib.Core.Logic.{⊎-elim}
 use mathlib.Core.List.{List, [], _∷_, _++_, append-nil, append-assoc}
 use mathlib.Core.Bool.{true}
-use Prim.Native.Nat.{ℕ, zero, suc, _+_, _-_, _≤_, _<_, min}
+use Prim.Native.Nat.{ℕ, suc, _+_, _-_, _≤_, _<_, min}
 use native.Mathlib.Omega.{arith}
 use borrow.Author.Tests.{le-leb}
 use lib.Dec.{leb}
 use lib.ListN.{length, getD, take, drop, set, replicate}
-use Rattle.std.proofs.shelf.Lists.{set-at, take-all, take-more, length-take-le, take-append-le, drop-all, drop-more}
+use Rattle.std.proofs.shelf.Lists.{set-at, take-all, take-more, length-take-le, take-append-le}
 use Rattle.std.proofs.str.Laws.{order}
 use Rattle.std.specs.declared.option.Option.the-variants.{Some}
 use Rattle.change.specs.Change.{most-parts}
 use Rattle.change.specs.Records.{fixed}
-use Rattle.change.proofs.Rows.{fixed-is, length-fixed}
+use Rattle.change.proofs.Rows.{fixed-is}
 use Rattle.day.specs.DayFile.{number-read, parts-read, submission}
 
 pub pad-next : (n i : ℕ) (xs : List ℕ) → i < n → i < length xs → set (take i xs ++ replicate (n - i) 0) i (getD xs i 0) ≡ take (i + 1) xs ++ replicate (n - (i + 1)) 0
@@ -35,20 +35,10 @@ pad-all n m xs e =
     ap (λ i. take i xs ++ replicate (n - i) 0) k ∙ ap (λ i. take n xs ++ replicate i 0) z ∙ append-nil (take n xs) ∙ sym (take-append-le n xs (replicate n 0) le))
     (order (length xs) n)
 
--- k elements from the i-th on, one by one
-abbrev pub one-by-one : ℕ → ℕ → List ℕ → List ℕ
-one-by-one zero i xs = []
-one-by-one (suc k) i xs = getD xs i 0 ∷ one-by-one k (i + 1) xs
-
-pub one-by-one-is : (k i : ℕ) (xs : List ℕ) → length xs ≡ i + k → one-by-one k i xs ≡ drop i xs
-one-by-one-is zero i xs e = sym (drop-all i xs (omega arith))
-one-by-one-is (suc k) i xs e = ap (λ l. getD xs i 0 ∷ l) (one-by-one-is k (i + 1) xs (omega arith)) ∙ sym (drop-more xs i 0 (omega arith))
-
--- the eleven numbers of a submission, with its parts one by one
+-- the eleven numbers of a submission
 pub submitted : (bs parts : List ℕ) (n k m : ℕ) → k ≡ getD bs 5 0 → m ≡ getD bs 5 0 → n ≡ number-read bs → parts ≡ fixed most-parts (take (6 + k - 6) (drop 6 bs)) →
-    6 + k ≤ length bs → Some (6 + k, 0 ∷ n ∷ m ∷ one-by-one most-parts 0 parts) ≡ submission bs
+    6 + k ≤ length bs → Some (6 + k, 0 ∷ n ∷ m ∷ (parts ++ [])) ≡ submission bs
 submitted bs parts n k m ek em en ep le =
     let there : leb (6 + getD bs 5 0) (length bs) ≡ true = le-leb (6 + getD bs 5 0) (length bs) (omega arith) in
-    let long : length parts ≡ 8 = ap length ep ∙ length-fixed 8 (take (6 + k - 6) (drop 6 bs)) in
-    let all : one-by-one 8 0 parts ≡ fixed 8 (parts-read bs) = one-by-one-is 8 0 parts long ∙ ep ∙ ap (λ i. fixed 8 (take i (drop 6 bs))) (omega arith) in
+    let all : parts ++ [] ≡ fixed most-parts (parts-read bs) = append-nil parts ∙ ep ∙ ap (λ i. fixed most-parts (take i (drop 6 bs))) (omega arith) in
     rw there (λ i. Some (6 + ek i, 0 ∷ en i ∷ em i ∷ all i))

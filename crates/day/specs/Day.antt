@@ -4,9 +4,8 @@ use Prim.Native.Nat.{ℕ}
 use lib.Chars.{codes}
 use Rattle.std.specs.declared.option.Option.{Option}
 use Rattle.std.specs.declared.option.Option.the-variants.{Some, None}
-use Rattle.queue.specs.Entry.{opened, recorded-by}
+use Rattle.queue.specs.Entry.{opened, stepped}
 use Rattle.run.specs.Numbers.{decode}
-use Rattle.queue.specs.declared.reply.Refusal.{Refusal}
 use Rattle.queue.specs.declared.reply.Reply.{Reply}
 use Rattle.queue.specs.declared.reply.Reply.the-variants.{Done, Refused}
 use Rattle.day.specs.DayFile.{config-read, events-in}
@@ -14,7 +13,7 @@ use Rattle.day.specs.Text.{refusal-text, reply-text}
 
 -- what the queue makes of an event: its reply, and its numbers after it
 abbrev pub answered : List ℕ → List ℕ → Reply × List ℕ
-answered xs event = recorded-by xs event
+answered xs event = stepped xs event
 
 -- the line of a reply
 abbrev pub printed : Reply × List ℕ → List ℕ

@@ -1,13 +1,14 @@
 // Reads a day file: its config, and one event behind the other.
 ghost use mathlib.Core.Path.{_≡_};
 ghost use Prim.Native.Nat.{_≤_};
-ghost use lib.ListN.{length, drop, getD, take};
+ghost use lib.ListN.{length};
 ghost use Rattle.change.specs.Change.{most-parts};
 ghost use Rattle.change.specs.Records.{fixed};
 ghost use Rattle.day.specs.DayFile.{config-read, next-event, number-read, submission, withdrawal, report};
 use change::MOST_PARTS;
 use run::EVENT_LENGTH;
 
+// How many bytes the config takes, a submission in front of its parts, a withdrawal, and a report.
 pub const CONFIG_BYTES: usize = 2;
 
 const SUBMIT_BYTES: usize = 6;
@@ -15,6 +16,9 @@ const SUBMIT_BYTES: usize = 6;
 const WITHDRAW_BYTES: usize = 5;
 
 const REPORT_BYTES: usize = 3;
+
+// Where the parts stand in the numbers of a submission: behind its kind, its number and its count.
+const PARTS_AT: usize = 3;
 
 // The benches and the depth.
 pub fn config_read(bytes: &[u8]) -> Option<(u64, u64)>
@@ -52,24 +56,12 @@ fn read_submission(bytes: &[u8]) -> Option<(usize, [u64; EVENT_LENGTH])>
     if bytes.len() < taken {
         return None;
     }
-    let p = padded(&bytes[SUBMIT_BYTES..taken]);
-    let number = number_read(bytes);
-    Some((
-        taken,
-        [
-            0,
-            number,
-            u64::from(count),
-            p[0],
-            p[1],
-            p[2],
-            p[3],
-            p[4],
-            p[5],
-            p[6],
-            p[7],
-        ],
-    ))
+    let parts = padded(&bytes[SUBMIT_BYTES..taken]);
+    let mut event = [0; EVENT_LENGTH];
+    event[1] = number_read(bytes);
+    event[2] = u64::from(count);
+    event[PARTS_AT..EVENT_LENGTH].copy_from_slice(&parts);
+    Some((taken, event))
 }
 
 fn read_withdrawal(bytes: &[u8]) -> Option<(usize, [u64; EVENT_LENGTH])>

@@ -1,5 +1,4 @@
 // What is printed once an event was answered.
-ghost use mathlib.Core.Path.{_≡_};
 ghost use denote.Ref.{now};
 ghost use Rattle.std.specs.declared.option.Option.the-variants.{Some};
 ghost use Rattle.run.specs.Numbers.{decode};

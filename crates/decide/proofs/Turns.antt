@@ -11,13 +11,14 @@ use Rattle.change.specs.Change.{Change, without}
 use Rattle.change.specs.Records.{Tallies, change-in, change-width, changes-in, rows}
 use Rattle.change.proofs.Rows.{length-rows, rows-append}
 use Rattle.change.proofs.Tables.{getD-rows}
-use Rattle.run.specs.Layout.{landed-count, most-landed, most-rejected, rejected-count, verdicts-at, verdicts-count, waiting-at, waiting-count}
-use Rattle.run.specs.Numbers.{Settled, Small, decode, landed-in, rejected-in, waiting-in, whole, with-changes}
+use Rattle.run.specs.Layout.{landed-count, most-landed, most-rejected, queue-length, rejected-count, verdicts-at, verdicts-count, waiting-at, waiting-count}
+use Rattle.run.specs.Numbers.{Sections, Settled, Small, decode, landed-in, rejected-in, waiting-in, whole, with-changes}
 use Rattle.run.specs.Records.{verdicts-in}
 use Rattle.run.specs.Run.{Verdict, runs-on}
-use Rattle.run.proofs.Changed.{Fitting, changes-again, count-landed, count-rejected, count-waiting, fitting-settled, landed-changed, rejected-changed, runs-settled, settled-changed, verdicts-changed, waiting-changed}
+use Rattle.run.specs.State.{Queue}
+use Rattle.run.proofs.Changed.{Fitting, changes-again, count-landed, count-rejected, count-waiting, decode-changed, fitting-settled, landed-changed, rejected-changed, runs-settled, settled-changed, verdicts-changed, waiting-changed}
 use Rattle.decide.specs.Decide.{Passed, by-decision, decision, decision-by, pass, shares-any}
-use Rattle.decide.specs.Passing.{passed-in, with-passed}
+use Rattle.decide.specs.Passing.{passed-in, passed-sections, passed-state}
 use Rattle.decide.specs.declared.decision.Decision.{Decision}
 use Rattle.decide.specs.declared.decision.Decision.the-variants.{Wait, Land, Reject}
 use Rattle.decide.proofs.Looks.{decided, waits-behind}
@@ -73,6 +74,10 @@ from-all vs i L W R le = (λ j. pass vs (take-all i W le j) L R (drop-all i W le
 abbrev pub held-verdicts : List ℕ → List Verdict
 held-verdicts xs = verdicts-in (landed-in xs) (getD xs verdicts-count 0) (drop verdicts-at xs)
 
+-- the state with these changes
+abbrev with-lists : List Change → List Change → List Change → Queue → Queue
+with-lists L W R q = record { landed = L; waiting = W; rejected = R; verdicts = q .verdicts; running = q .running; requested = q .requested }
+
 -- the pass over `old` after some turns: the numbers are `new`, and the first i of those that wait were looked at
 pub record Underway (old new : List ℕ) (i : ℕ) : Type 0 where
   pub settled : Settled new
@@ -80,17 +85,26 @@ pub record Underway (old new : List ℕ) (i : ℕ) : Type 0 where
   pub verdicts : held-verdicts new ≡ held-verdicts old
   pub count : getD new verdicts-count 0 ≡ getD old verdicts-count 0
   pub same : (L W R : List Change) → with-changes new L W R ≡ with-changes old L W R
+  pub state : decode new ≡ with-lists (landed-in new) (waiting-in new) (rejected-in new) (decode old)
   pub goes-on : from (held-verdicts old) i (landed-in new) (waiting-in new) (rejected-in new) ≡ passed-in old
 
 pub start : (xs : List ℕ) → Settled xs → Underway xs xs 0
 unfolding decode
-start xs h = record { settled = h; few = omega arith; verdicts = refl; count = refl; same = λ L W R. refl; goes-on = refl }
+start xs h = record { settled = h; few = omega arith; verdicts = refl; count = refl; same = λ L W R. refl; state = refl; goes-on = refl }
 
--- where all were looked at, the numbers are those that the pass gives
-pub done : (old new : List ℕ) (i : ℕ) → Underway old new i → getD new waiting-count 0 ≤ i → new ≡ whole (with-passed old (passed-in old))
-done old new i u le =
-    let e = sym (from-all (held-verdicts old) i (landed-in new) (waiting-in new) (rejected-in new) (omega (arith, count-waiting new))) ∙ u .goes-on in
-    u .settled .is ∙ (ap whole (u .same (landed-in new) (waiting-in new) (rejected-in new)) ∙ ap (λ (p : Passed). whole (with-passed old p)) e)
+-- where all were looked at, the numbers are those that the pass gives, and they say its state
+module _ (old new : List ℕ) (i : ℕ) (u : Underway old new i) (le : getD new waiting-count 0 ≤ i) where
+  all-passed : record { landed = landed-in new; waiting = waiting-in new; rejected = rejected-in new } ≡ passed-in old
+  all-passed = sym (from-all (held-verdicts old) i (landed-in new) (waiting-in new) (rejected-in new) (omega (arith, count-waiting new))) ∙ u .goes-on
+
+  pub done : new ≡ whole (passed-sections old)
+  done = u .settled .is ∙ (ap whole (u .same (landed-in new) (waiting-in new) (rejected-in new)) ∙ ap (λ (p : Passed). whole (with-changes old (p .landed) (p .waiting) (p .rejected))) all-passed)
+
+  pub done-state : decode new ≡ passed-state old
+  done-state = u .state ∙ ap (λ (p : Passed). with-lists (p .landed) (p .waiting) (p .rejected) (decode old)) all-passed
+
+pub behind-stays : (old new : List ℕ) (i : ℕ) → Underway old new i → drop queue-length new ≡ drop queue-length old
+behind-stays old new i u = ap (λ (s : Sections). s .behind) (u .same [] [] [])
 
 -- the change at hand
 module _ (old new : List ℕ) (i : ℕ) (x : Change) (u : Underway old new i) (lt : i < getD new waiting-count 0) (at : x ≡ change-in (drop (waiting-at + change-width * i) new)) where
@@ -132,6 +146,7 @@ module _ (old new : List ℕ) (i : ℕ) (x : Change) (u : Underway old new i) (l
         verdicts = u .verdicts;
         count = u .count;
         same = u .same;
+        state = u .state;
         goes-on = sym (from-waits (held-verdicts old) i L W R x there is d) ∙ u .goes-on;
       }
 
@@ -156,6 +171,7 @@ module _ (old new : List ℕ) (i : ℕ) (x : Change) (u : Underway old new i) (l
           verdicts = verdicts-changed new zs ds (without i W) R₁ (runs-settled new h) fit₁ z₁ ∙ u .verdicts;
           count = ap (λ l. getD l verdicts-count 0) z ∙ u .count;
           same = λ L₂ W₂ R₂. again L₂ W₂ R₂ ∙ u .same L₂ W₂ R₂;
+          state = decode-changed new zs ds (without i W) R₁ (runs-settled new h) fit₁ z₁ ∙ (λ j. with-lists (sym (landed ∙ e) j) (sym waiting j) (sym rejected j) (u .state j));
           goes-on = (λ j. from (held-verdicts old) i (landed j) (waiting j) (rejected j)) ∙ (sym step ∙ u .goes-on);
         },
         left,

@@ -1,8 +1,10 @@
 // The pass over those that wait.
 ghost use mathlib.Core.Path.{_≡_};
+ghost use lib.ListN.{drop};
 ghost use Rattle.change.specs.Records.{Tallies};
-ghost use Rattle.decide.specs.Passing.{passed-in, with-passed};
-ghost use Rattle.run.specs.Numbers.{Settled, landed-in, whole};
+ghost use Rattle.decide.specs.Passing.{passed-sections, passed-state};
+ghost use Rattle.run.specs.Layout.{queue-length};
+ghost use Rattle.run.specs.Numbers.{Settled, decode, landed-in, whole};
 use super::decision::Decision;
 use super::steps::count_landed;
 use super::steps::land;
@@ -16,7 +18,9 @@ use run::*;
 pub fn pass(queue: &mut [u64], tally: &mut [u64; PARTS])
     requires settled { ⌜ Settled (now queue) ⌝ }
     requires tallied { ⌜ Tallies (now tally) (landed-in (now queue)) ⌝ }
-    ensures passed { λ _. ⌜ now (queue .exit) ≡ whole (with-passed (now (queue .entry)) (passed-in (now (queue .entry)))) ⌝ }
+    ensures passed { λ _. ⌜ now (queue .exit) ≡ whole (passed-sections (now (queue .entry))) ⌝ }
+    ensures state { λ _. ⌜ decode (now (queue .exit)) ≡ passed-state (now (queue .entry)) ⌝ }
+    ensures behind { λ _. ⌜ drop queue-length (now (queue .exit)) ≡ drop queue-length (now (queue .entry)) ⌝ }
     ensures settled { λ _. ⌜ Settled (now (queue .exit)) ⌝ }
     ensures tallied { λ _. ⌜ Tallies (now (tally .exit)) (landed-in (now (queue .exit))) ⌝ }
 {

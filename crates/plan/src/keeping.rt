@@ -6,11 +6,8 @@ ghost use Prim.Native.Nat.{_+_, _*_, _≤_};
 ghost use lib.ListN.{length, replicate};
 ghost use Rattle.change.specs.Records.{written};
 ghost use Rattle.run.specs.Layout.{most-running, most-verdicts};
-ghost use Rattle.run.specs.Numbers.{landed-in};
 ghost use Rattle.run.specs.Records.{row-of, run-width, verdict-width};
-ghost use Rattle.plan.specs.Plan.{still-known, still-running};
-ghost use Rattle.plan.specs.Numbers.{Ready, running-now, useful-now, verdicts-now};
-ghost use Rattle.plan.specs.Rows.{Holds-runs, Holds-verdicts};
+ghost use Rattle.plan.specs.Numbers.{Kept-runs, Kept-verdicts, Ready};
 use super::useful::find_useful;
 use change::PARTS;
 use run::RUN_WIDTH;
@@ -25,7 +22,7 @@ use run::VERDICTS_COUNT;
 pub fn keep_verdicts(queue: &[u64], tally: &[u64; PARTS], out: &mut [u64]) -> usize
     requires ready { ⌜ Ready (now queue) (now tally) ⌝ }
     requires zero { ⌜ now out ≡ replicate (verdict-width * most-verdicts) 0 ⌝ }
-    ensures { λ r. ⌜ Holds-verdicts (landed-in (now (queue .entry))) r (now (out .exit)) (still-known (useful-now (now (queue .entry))) (verdicts-now (now (queue .entry)))) ⌝ }
+    ensures { λ r. ⌜ Kept-verdicts (now (queue .entry)) r (now (out .exit)) ⌝ }
 {
     let mut found = 0usize;
     for k in 0..queue[VERDICTS_COUNT] as usize {
@@ -47,7 +44,7 @@ pub fn keep_verdicts(queue: &[u64], tally: &[u64; PARTS], out: &mut [u64]) -> us
 pub fn keep_running(queue: &[u64], tally: &[u64; PARTS], out: &mut [u64]) -> usize
     requires ready { ⌜ Ready (now queue) (now tally) ⌝ }
     requires zero { ⌜ now out ≡ replicate (run-width * most-running) 0 ⌝ }
-    ensures { λ r. ⌜ Holds-runs (landed-in (now (queue .entry))) r (now (out .exit)) (still-running (useful-now (now (queue .entry))) (running-now (now (queue .entry)))) ⌝ }
+    ensures { λ r. ⌜ Kept-runs (now (queue .entry)) r (now (out .exit)) ⌝ }
 {
     let mut found = 0usize;
     for k in 0..queue[RUNNING_COUNT] as usize {

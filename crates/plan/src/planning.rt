@@ -3,10 +3,9 @@ ghost use mathlib.Core.Path.{_≡_};
 ghost use Prim.Native.Nat.{_*_, _≤_, _<_};
 ghost use lib.ListN.{drop, getD, length};
 ghost use Rattle.run.specs.Layout.{most-running, most-verdicts, number-limit, queue-length, requested-at, running-count};
-ghost use Rattle.run.specs.Numbers.{Fits, config-in, decode, encode, whole};
+ghost use Rattle.run.specs.Numbers.{Fits, config-in, encode, whole};
 ghost use Rattle.run.specs.Records.{run-width, verdict-width};
-ghost use Rattle.plan.specs.Plan.{planned};
-ghost use Rattle.plan.specs.Numbers.{Ready, with-running};
+ghost use Rattle.plan.specs.Numbers.{Ready, planned-in, with-running};
 use super::keeping::keep_running;
 use super::keeping::keep_verdicts;
 use super::requesting::request_useful;
@@ -27,9 +26,9 @@ use run::VERDICTS_COUNT;
 pub fn plan_runs(queue: &mut [u64], tally: &[u64; PARTS])
     requires ready { ⌜ Ready (now queue) (now tally) ⌝ }
     requires few { ⌜ getD (now queue) requested-at 0 < number-limit ⌝ }
-    ensures is { λ _. ⌜ now (queue .exit) ≡ encode (config-in (now (queue .entry))) (planned (config-in (now (queue .entry))) (decode (now (queue .entry)))) (drop queue-length (now (queue .entry))) ⌝ }
-    ensures fits { λ _. ⌜ Fits (planned (config-in (now (queue .entry))) (decode (now (queue .entry)))) ⌝ }
-    ensures running { λ _. ⌜ getD (now (queue .exit)) running-count 0 ≡ length (planned (config-in (now (queue .entry))) (decode (now (queue .entry))) .running) ⌝ }
+    ensures is { λ _. ⌜ now (queue .exit) ≡ encode (config-in (now (queue .entry))) (planned-in (now (queue .entry))) (drop queue-length (now (queue .entry))) ⌝ }
+    ensures fits { λ _. ⌜ Fits (planned-in (now (queue .entry))) ⌝ }
+    ensures running { λ _. ⌜ getD (now (queue .exit)) running-count 0 ≡ length (planned-in (now (queue .entry)) .running) ⌝ }
 {
     let mut verdicts = [0u64; VERDICT_WIDTH * MOST_VERDICTS];
     let known = keep_verdicts(queue, tally, &mut verdicts);

@@ -1,17 +1,15 @@
 // Requesting useful runs one after another, while a bench is free.
 ghost use mathlib.Core.Path.{_≡_};
 ghost use mathlib.Core.Bool.{cond};
-ghost use mathlib.Core.List.{_++_};
 ghost use Prim.Native.Nat.{_+_, _*_, _≤_, _<_};
 ghost use lib.ListN.{length, take, drop};
 ghost use Rattle.change.specs.Records.{change-of, written};
 ghost use Rattle.run.specs.Layout.{most-benches, most-running, most-verdicts};
 ghost use Rattle.run.specs.Limits.{most-following};
-ghost use Rattle.run.specs.Numbers.{landed-in};
-ghost use Rattle.run.specs.Records.{row-of, run-width, runs-in, verdict-width, verdicts-in};
-ghost use Rattle.run.specs.Run.{runs-on, same-list};
-ghost use Rattle.plan.specs.Numbers.{Ready, first-waiting, requested-of, useful-now};
-ghost use Rattle.plan.specs.Rows.{Holds-runs, Holds-verdicts, has-row, lacks-row, run-rows};
+ghost use Rattle.run.specs.Records.{row-of, run-width, verdict-width};
+ghost use Rattle.run.specs.Run.{same-list};
+ghost use Rattle.plan.specs.Numbers.{Ready, Requested, Stored-runs, Stored-verdicts, runs-behind, useful-now};
+ghost use Rattle.plan.specs.Rows.{has-row, lacks-row, run-rows};
 use super::keeping::append_run;
 use super::useful::useful_run;
 use change::CHANGE_WIDTH;
@@ -35,9 +33,9 @@ pub fn request_useful(
     n: usize,
 ) -> usize
     requires ready { ⌜ Ready (now queue) (now tally) ⌝ }
-    requires verdicts { ⌜ Holds-verdicts (landed-in (now queue)) known (now verdicts) (verdicts-in (landed-in (now queue)) known (now verdicts)) ⌝ }
-    requires running { ⌜ Holds-runs (landed-in (now queue)) n (now running) (runs-in (landed-in (now queue)) n (now running)) ⌝ }
-    ensures { λ r. ⌜ Holds-runs (landed-in (now (queue .entry))) r (now (running .exit)) (requested-of (now (queue .entry)) known (now (verdicts .entry)) n (now (running .entry)) (useful-now (now (queue .entry)))) ⌝ }
+    requires verdicts { ⌜ Stored-verdicts (now queue) known (now verdicts) ⌝ }
+    requires running { ⌜ Stored-runs (now queue) n (now running) ⌝ }
+    ensures { λ r. ⌜ Requested (now (queue .entry)) known (now (verdicts .entry)) n (now (running .entry)) (useful-now (now (queue .entry))) r (now (running .exit)) ⌝ }
 {
     let mut n = n;
     for i in 0..queue[DEPTH_AT].min(queue[WAITING_COUNT]) as usize {
@@ -60,9 +58,9 @@ fn request_change(
 ) -> usize
     requires ready { ⌜ Ready (now queue) (now tally) ⌝ }
     requires near { ⌜ w < most-following ⌝ }
-    requires verdicts { ⌜ Holds-verdicts (landed-in (now queue)) known (now verdicts) (verdicts-in (landed-in (now queue)) known (now verdicts)) ⌝ }
-    requires running { ⌜ Holds-runs (landed-in (now queue)) n (now running) (runs-in (landed-in (now queue)) n (now running)) ⌝ }
-    ensures { λ r. ⌜ Holds-runs (landed-in (now (queue .entry))) r (now (running .exit)) (requested-of (now (queue .entry)) known (now (verdicts .entry)) n (now (running .entry)) (runs-on (landed-in (now (queue .entry)) ++ first-waiting w (now (queue .entry))) (c .number) (change-of c .parts))) ⌝ }
+    requires verdicts { ⌜ Stored-verdicts (now queue) known (now verdicts) ⌝ }
+    requires running { ⌜ Stored-runs (now queue) n (now running) ⌝ }
+    ensures { λ r. ⌜ Requested (now (queue .entry)) known (now (verdicts .entry)) n (now (running .entry)) (runs-behind (now (queue .entry)) w (change-of c)) r (now (running .exit)) ⌝ }
 {
     let benches = queue[BENCHES_AT] as usize;
     let mut n = n;

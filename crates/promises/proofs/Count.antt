@@ -13,20 +13,20 @@ use Rattle.run.specs.declared.known.Known.{Known}
 use Rattle.run.specs.declared.known.Known.the-variants.{Nothing, Good, Bad}
 use Rattle.change.specs.Change.{most-parts, Change, numbered, without}
 use Rattle.run.specs.Run.{Run, Verdict, heard, is-good, is-unknown, runs-on}
+use Rattle.run.specs.State.{Config, Queue, empty}
 use Rattle.decide.specs.Decide.{all-good}
 use Rattle.plan.specs.Plan.{useful, among, kept, still-running, useful-in, planned}
-use Rattle.run.specs.State.{Config, Queue, empty}
 use Rattle.queue.specs.Queue.{Event, submit, withdraw, report, accepts, recorded, decided, step, replayed}
 use Rattle.promises.specs.Day.{Log, blank, withdrawn-by, new-runs, with-event, logged, held, Different, parts-in}
 use Rattle.promises.specs.Promises.{Each-run-once, Waste-bounded}
 use Rattle.promises.proofs.Basics.{clash, not-so, neither-right, both-left, both-right, numbered-push, kept-all}
 use Rattle.promises.proofs.Serial.{all-at}
 use Rattle.promises.proofs.Pass.{Lands, Rejects, pass-all}
-use Rattle.promises.proofs.Marks.{ended, numbered-place}
+use Rattle.promises.proofs.Marks.{numbered-place}
 use Rattle.promises.proofs.Days.{log-keeps}
 use Rattle.promises.proofs.Runs.{among-head, among-append, among-left, among-right, among-cases, among-one, Sub, all-from, among-kept, different-kept, different-append, different-both, different-apart, pigeons}
 use Rattle.promises.proofs.Useful.{Proper, length-runs-on, useful-more, useful-land, last, runs-last, useful-last, different-runs, useful-few, useful-parts}
-use Rattle.promises.proofs.Held.{Neat, neat-land, neat-reject, neat-recorded, known, unknown-is, moved, kept-append, still-held, Replanned, Orderly, ready, orderly-step, orderly-empty, orderly}
+use Rattle.promises.proofs.Held.{Neat, neat-land, neat-reject, neat-recorded, known, unknown-is, moved, kept-append, still-held, Replanned, Orderly, ready, orderly-step, orderly-empty}
 use Rattle.promises.proofs.Idle.{useful-none}
 
 -- what is known good is known
@@ -108,7 +108,8 @@ account-reject n b₀ gone vs held L₀ L W₁ c W₂ B y k = record {
 }
 
 -- what was useful before an event is useful once it is recorded, unless it is a withdrawal
-cover-recorded : (t : Config) (q : Queue) (e : Event) → withdrawn-by e + length (recorded q e .rejected) ≡ length (q .rejected) → Sub (useful-in t q) (useful-in t (recorded q e))
+cover-recorded : (t : Config) (q : Queue) (e : Event) → withdrawn-by e + length (recorded q e .rejected) ≡ length (q .rejected) →
+    Sub (useful-in t q) (useful-in t (recorded q e))
 unfolding recorded
 cover-recorded t q (submit c) k = useful-more (t .depth) (q .waiting) (c ∷ []) (q .landed)
 cover-recorded t q (withdraw n) k = absurd (omega (arith, k))
@@ -151,12 +152,14 @@ account t q e a o = pass-all (p .verdicts) (Account (t .depth) (length (q .rejec
     same = recorded-same q e
 
 -- ONE EVENT. What is held after it, by what was held before.
-among-still : (t : Config) (q : Queue) (e : Event) → accepts t q e ≡ true → (r : Run) → among r (still-held t (decided (recorded q e))) ≡ (among r (useful-in t (decided (recorded q e))) && among r (held q))
+among-still : (t : Config) (q : Queue) (e : Event) → accepts t q e ≡ true → (r : Run) →
+    among r (still-held t (decided (recorded q e))) ≡ (among r (useful-in t (decided (recorded q e))) && among r (held q))
 unfolding decided
 among-still t q e a r = among-kept (λ s. among s (useful-in t (decided (recorded q e)))) r (held (recorded q e)) ∙ ap (_&&_ (among r (useful-in t (decided (recorded q e))))) (moved t q e a .same r)
 
 -- the runs of what landed are gone, and all else that was useful is still held
-least-gone : (t : Config) (q : Queue) (e : Event) → accepts t q e ≡ true → Orderly t q → (k : Account-of t q e) → length (k .runs) + length (still-held t (decided (recorded q e))) ≤ length (held q)
+least-gone : (t : Config) (q : Queue) (e : Event) → accepts t q e ≡ true → Orderly t q → (k : Account-of t q e) →
+    length (k .runs) + length (still-held t (decided (recorded q e))) ≤ length (held q)
 unfolding decided
 least-gone t q e a o k = omega (arith, length-append (k .runs) still, pigeons (k .runs ++ still) (held q) apart there)
   where
@@ -175,7 +178,8 @@ least-gone t q e a o k = omega (arith, length-append (k .runs) still, pigeons (k
     ]
 
 -- and if nothing was rejected or withdrawn, nothing else is gone
-most-gone : (t : Config) (q : Queue) (e : Event) → accepts t q e ≡ true → Orderly t q → (k : Account-of t q e) → withdrawn-by e + length (decided (recorded q e) .rejected) ≡ length (q .rejected) →
+most-gone : (t : Config) (q : Queue) (e : Event) → accepts t q e ≡ true → Orderly t q → (k : Account-of t q e) →
+    withdrawn-by e + length (decided (recorded q e) .rejected) ≡ length (q .rejected) →
     length (held q) ≤ length (k .runs) + length (still-held t (decided (recorded q e)))
 most-gone t q e a o k h = omega (arith, length-append (k .runs) still, pigeons (held q) (k .runs ++ still) (o .different) there)
   where
@@ -206,7 +210,8 @@ kept-none test [] k = refl
 kept-none test (r ∷ rs) k = ap (λ (b : Bool). cond b (r ∷ kept test rs) (kept test rs)) (k r (among-head r rs)) ∙ kept-none test rs (λ s e. k s (among-right s (r ∷ []) rs e))
 
 -- a run that was held and is useful is not requested
-new-not-held : (t : Config) (q : Queue) (e : Event) → accepts t q e ≡ true → (k : Replanned t (decided (recorded q e)) (step t q e)) → (r : Run) → among r (k .new) ≡ true → among r (held q) ≡ false
+new-not-held : (t : Config) (q : Queue) (e : Event) → accepts t q e ≡ true → (k : Replanned t (decided (recorded q e)) (step t q e)) → (r : Run) →
+    among r (k .new) ≡ true → among r (held q) ≡ false
 new-not-held t q e a k r h = not-so (among r (held q)) (λ j. clash h (different-apart still (k .new) (subst Different (k .held-is) (k .different)) r
     (among-still t q e a r ∙ and-from (among r us) (among r (held q)) (k .useful r (ap (among r) (k .held-is) ∙ among-right r still (k .new) h)) j)))
   where
@@ -232,7 +237,8 @@ running-sub q (withdraw n) r h = h
 running-sub q (report i g) r h = without-sub i (q .running) r h
 
 -- of the runs that run now, those that did not run before are the requests
-requests-are : (t : Config) (q : Queue) (e : Event) → accepts t q e ≡ true → (k : Replanned t (decided (recorded q e)) (step t q e)) → new-runs (q .running) (step t q e .running) ≡ k .new
+requests-are : (t : Config) (q : Queue) (e : Event) → accepts t q e ≡ true → (k : Replanned t (decided (recorded q e)) (step t q e)) →
+    new-runs (q .running) (step t q e .running) ≡ k .new
 requests-are t q e a k =
     ap (kept test) (k .running-is) ∙ kept-append test still (k .new)
     ∙ ap₂ _++_ (kept-none test still (λ r h. ap not (running-sub q e r (both-right (among r us) (among r (p .running)) (sym (among-kept (λ s. among s us) r (p .running)) ∙ h)))))

@@ -20,7 +20,8 @@ log-keeps t P k (e ∷ es) q g h = log-keeps t P k es (after t q e) (cond (accep
     go false a = h
 
 -- the same of the queue alone
-pub day-keeps : (t : Config) (P : Queue → Type 0) → ((q : Queue) (e : Event) → accepts t q e ≡ true → P q → P (step t q e)) → (es : List Event) (q : Queue) → P q → P (replayed t q es)
+pub day-keeps : (t : Config) (P : Queue → Type 0) → ((q : Queue) (e : Event) → accepts t q e ≡ true → P q → P (step t q e)) → (es : List Event) (q : Queue) → P q →
+    P (replayed t q es)
 day-keeps t P k es q h = log-keeps t (λ q g. P q) (λ q g e a i. k q e a i) es q blank h
 
 -- an event that is taken is stepped

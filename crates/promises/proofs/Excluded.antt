@@ -6,12 +6,11 @@ use Rattle.decide.specs.declared.decision.Decision.{Decision}
 use Rattle.decide.specs.declared.decision.Decision.the-variants.{Wait, Land, Reject}
 use Rattle.change.specs.Change.{Change}
 use Rattle.run.specs.Run.{Verdict}
+use Rattle.run.specs.State.{Config, Queue}
 use Rattle.serial.specs.Serial.{passes-on, passes, serial-landed}
 use Rattle.decide.specs.Decide.{decision, by-decision, pass}
 use Rattle.plan.specs.Plan.{useful, still-running, still-known, request, useful-in, with-runs, planned}
-use Rattle.run.specs.State.{Config, Queue}
 use Rattle.queue.specs.Queue.{accepts, recorded, with-passed, decided, step}
-use Rattle.promises.specs.Day.{held}
 use Rattle.promises.specs.Wrong.{own, pass-under, decided-under, planned-under, step-under, Own-rules, played-from, Wrong-queues}
 use Rattle.promises.proofs.Basics.{kept-all}
 use Rattle.promises.proofs.Runs.{all-from}
@@ -21,7 +20,8 @@ unfolding pass-under pass
 pass-own vs held landed rejected [] = refl
 pass-own vs held landed rejected (c ∷ cs) = go (decision vs held landed c) (pass-own vs (held ++ c ∷ []) landed rejected cs) (pass-own vs held (landed ++ c ∷ []) rejected cs) (pass-own vs held landed (rejected ++ c ∷ []) cs)
   where
-    go : (d : Decision) → pass-under own vs (held ++ c ∷ []) landed rejected cs ≡ pass vs (held ++ c ∷ []) landed rejected cs → pass-under own vs held (landed ++ c ∷ []) rejected cs ≡ pass vs held (landed ++ c ∷ []) rejected cs →
+    go : (d : Decision) → pass-under own vs (held ++ c ∷ []) landed rejected cs ≡ pass vs (held ++ c ∷ []) landed rejected cs →
+        pass-under own vs held (landed ++ c ∷ []) rejected cs ≡ pass vs held (landed ++ c ∷ []) rejected cs →
         pass-under own vs held landed (rejected ++ c ∷ []) cs ≡ pass vs held landed (rejected ++ c ∷ []) cs →
         by-decision d (pass-under own vs (held ++ c ∷ []) landed rejected cs) (pass-under own vs held (landed ++ c ∷ []) rejected cs) (pass-under own vs held landed (rejected ++ c ∷ []) cs)
         ≡ by-decision d (pass vs (held ++ c ∷ []) landed rejected cs) (pass vs held (landed ++ c ∷ []) rejected cs) (pass vs held landed (rejected ++ c ∷ []) cs)

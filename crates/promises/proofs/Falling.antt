@@ -7,15 +7,14 @@ use Prim.Native.Nat.{ℕ, suc, _+_, _-_, _*_, _≤_, _<_}
 use native.Mathlib.Omega.{arith}
 use lib.Dec.{eqb}
 use lib.ListN.{length, getD, length-append}
-use Rattle.std.proofs.shelf.Tests.{ltb-true}
+use Rattle.std.proofs.shelf.Tests.{ltb-true, lt-ltb}
 use Rattle.std.specs.shelf.Lists.{All}
 use Rattle.std.proofs.shelf.Lists.{length-push, length-map}
 use Rattle.change.specs.Change.{most-parts, Change, numbered, dropped, without}
 use Rattle.run.specs.Run.{Run, Verdict}
-use Rattle.plan.specs.Plan.{useful, among, still-known, useful-in, planned}
 use Rattle.run.specs.State.{Config, Queue, empty}
+use Rattle.plan.specs.Plan.{useful, among, still-known, useful-in, planned}
 use Rattle.queue.specs.Queue.{Event, submit, withdraw, report, accepts, no-run, recorded, decided, step, after, replayed}
-use Rattle.queue.specs.WorkedDay.{run}
 use Rattle.promises.specs.Day.{held, measure, Not-submit, All-taken}
 use Rattle.promises.specs.Promises.{Progress}
 use Rattle.promises.proofs.Basics.{kept-all, length-place}
@@ -24,6 +23,7 @@ use Rattle.promises.proofs.Days.{after-taken}
 use Rattle.promises.proofs.Runs.{among-left, all-from, pigeons}
 use Rattle.promises.proofs.Useful.{useful-few}
 use Rattle.promises.proofs.Held.{known, moved, Orderly, orderly-step, orderly}
+use Rattle.promises.proofs.Idle.{never-idle}
 use Rattle.promises.proofs.Fit.{all-verdicts}
 
 -- after the pass fewer wait, or nothing has changed
@@ -99,7 +99,8 @@ unfolding recorded accepts
 falls t q (submit c) x a o = absurd x
 falls t q (withdraw n) x a o = falls-waiting t q (step t q (withdraw n)) (orderly-step t q (withdraw n) a o) (go (fewer-step t q (withdraw n)))
   where
-    go : Fewer (q .landed) (dropped n (q .waiting)) (step t q (withdraw n) .landed) (step t q (withdraw n) .waiting) (step t q (withdraw n) .rejected) → length (step t q (withdraw n) .waiting) < length (q .waiting)
+    go : Fewer (q .landed) (dropped n (q .waiting)) (step t q (withdraw n) .landed) (step t q (withdraw n) .waiting) (step t q (withdraw n) .rejected) →
+        length (step t q (withdraw n) .waiting) < length (q .waiting)
     go (inl l) = omega (arith, l, length-dropped-one n (q .waiting) a)
     go (inr k) = omega (arith, ap length (k .1), length-dropped-one n (q .waiting) a)
 falls t q (report i g) x a o = go (fewer-step t q (report i g))
@@ -133,9 +134,11 @@ nobody-waits t q l = go (q .waiting) refl
     go (w ∷ ws) e = absurd (omega (arith, l, ap (λ (vs : List Change). length vs * suc (most-parts * t .depth)) e))
 
 pub progress : Progress
+unfolding accepts
 progress t es = (
   λ e x a. omega (arith, ap (measure t) (after-taken t q e a), falls t q e x a (orderly t es)),
   λ fs k. (omega (arith, falls-all t fs q (orderly t es) k), λ l. nobody-waits t (replayed t q fs) (omega (arith, falls-all t fs q (orderly t es) k, l))),
+  λ b d w g. lt-ltb 0 (length (q .running)) (never-idle t es b d w),
 )
   where
     q : Queue

@@ -4,8 +4,8 @@ use mathlib.Core.List.{List, [], _∷_, _++_, append-nil, append-assoc}
 use lib.ListN.{length, take}
 use Rattle.std.proofs.shelf.Lists.{take-at}
 use Rattle.change.specs.Change.{Change, line, numbered}
-use Rattle.serial.specs.Serial.{serial-landed, serial-rejected}
 use Rattle.run.specs.State.{Config, Queue, empty}
+use Rattle.serial.specs.Serial.{serial-landed, serial-rejected}
 use Rattle.plan.specs.Plan.{planned}
 use Rattle.queue.specs.Queue.{Event, submit, withdraw, report, recorded, decided, step, replayed}
 use Rattle.promises.specs.Day.{logged, not-waiting}

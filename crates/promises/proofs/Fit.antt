@@ -14,12 +14,12 @@ use Rattle.std.proofs.shelf.Lists.{nil-from-length, length-push, length-map}
 use Rattle.change.specs.Change.{most-parts, Change, dropped}
 use Rattle.run.specs.Run.{Run, Verdict}
 use Rattle.run.specs.Records.{Ahead}
-use Rattle.plan.specs.Plan.{useful, among, useful-in, planned}
 use Rattle.run.specs.Layout.{most-landed, most-waiting, most-rejected, most-verdicts, most-benches, most-depth}
 use Rattle.run.specs.State.{Config, Queue, empty}
-use Rattle.queue.specs.Queue.{Event, submit, withdraw, report, fresh, proper, roomy, accepts, recorded, decided, step, replayed}
 use Rattle.run.specs.Numbers.{Fits}
-use Rattle.promises.specs.Day.{held, Begins}
+use Rattle.plan.specs.Plan.{useful, among, useful-in, planned}
+use Rattle.queue.specs.Queue.{Event, submit, withdraw, report, fresh, proper, roomy, accepts, recorded, decided, step, replayed}
+use Rattle.promises.specs.Day.{held, Ahead-by}
 use Rattle.promises.specs.Promises.{Verdicts-fit}
 use Rattle.promises.proofs.Basics.{both-left, both-right, all-both, length-place}
 use Rattle.promises.proofs.Pass.{pass-all}
@@ -137,10 +137,10 @@ all-verdicts P [] a = tt
 all-verdicts P (v ∷ vs) a = (a .0, all-verdicts P vs (a .1))
 
 -- every run held is useful, and begins as useful runs do
-begins-day : (t : Config) (es : List Event) → All (Begins (replayed t empty es .landed) (t .depth)) (held (replayed t empty es))
+begins-day : (t : Config) (es : List Event) → All (Ahead-by (replayed t empty es .landed) (t .depth)) (held (replayed t empty es))
 begins-day t es =
     let q = replayed t empty es in
-    all-from (Begins (q .landed) (t .depth)) (held q) (λ r e. useful-begin (t .depth) (q .landed) (q .waiting) r (orderly t es .useful r e))
+    all-from (Ahead-by (q .landed) (t .depth)) (held q) (λ r e. useful-begin (t .depth) (q .landed) (q .waiting) r (orderly t es .useful r e))
 
 -- so a reachable queue fits its sections
 pub fits-day : (t : Config) (es : List Event) → t .depth ≤ most-depth → t .benches ≤ most-benches → Fits (replayed t empty es)
@@ -168,7 +168,7 @@ fits-day t es d b = record {
 
     ahead : All (Ahead (q .landed)) (known (q .verdicts)) × All (Ahead (q .landed)) (q .running)
     ahead = all-both (Ahead (q .landed)) (known (q .verdicts)) (q .running)
-        (all-weaker (Begins (q .landed) (t .depth)) (Ahead (q .landed)) (λ r k. record { following = k .following; is = k .is; few = omega (arith, k .few, d) }) (held q) (begins-day t es))
+        (all-weaker (Ahead-by (q .landed) (t .depth)) (Ahead (q .landed)) (λ r k. record { following = k .following; is = k .is; few = omega (arith, k .few, d) }) (held q) (begins-day t es))
 
 pub verdicts-fit : Verdicts-fit
 verdicts-fit t es = (

@@ -12,12 +12,12 @@ use Rattle.std.specs.shelf.Lists.{All}
 use Rattle.std.proofs.shelf.Elements.{all-push}
 use Rattle.std.proofs.shelf.Lists.{length-push, map-push}
 use Rattle.run.specs.declared.known.Known.the-variants.{Good, Bad}
+use Rattle.run.proofs.Compared.{same-run-swap}
 use Rattle.change.specs.Change.{Change, numbered, dropped, without}
 use Rattle.run.specs.Run.{Run, Verdict, same-run, heard, is-unknown}
-use Rattle.plan.specs.Plan.{useful, among, kept, still-running, still-known, lacks, request, useful-in, planned}
 use Rattle.run.specs.State.{Config, Queue, empty}
+use Rattle.plan.specs.Plan.{useful, among, kept, still-running, still-known, lacks, request, useful-in, planned}
 use Rattle.queue.specs.Queue.{Event, submit, withdraw, report, used, fresh, proper, roomy, accepts, no-run, answered, recorded, decided, step, after, replayed}
-use Rattle.queue.specs.WorkedDay.{run}
 use Rattle.promises.specs.Day.{held, Different}
 use Rattle.promises.specs.Promises.{Only-useful-runs}
 use Rattle.promises.proofs.Basics.{clash, not-so, neither-left, neither-right, both-left, both-right, numbered-push, length-place}
@@ -25,7 +25,7 @@ use Rattle.promises.proofs.Serial.{all-out, all-at}
 use Rattle.promises.proofs.Pass.{pass-all}
 use Rattle.promises.proofs.Marks.{numbered-place, Distinct, distinct-push, numbered-dropped, distinct-dropped}
 use Rattle.promises.proofs.Days.{day-keeps, fresh-number}
-use Rattle.promises.proofs.Runs.{same-run-sym, among-head, among-append, among-left, among-right, among-cases, among-one, among-place, Sub, all-from, among-kept, different-kept, different-push}
+use Rattle.promises.proofs.Runs.{among-head, among-append, among-left, among-right, among-cases, among-one, among-place, Sub, all-from, among-kept, different-kept, different-push}
 use Rattle.promises.proofs.Useful.{Proper, proper-is}
 
 -- CHANGES. L has landed, W waits, B was rejected.
@@ -166,7 +166,7 @@ different-moved [] [] r B d = d
 different-moved [] (x ∷ A) r B d =
     let k = different-moved [] A r B (d .1) in
     let other = sym (among-place x A r B) ∙ d .0 in (
-      or-from (same-run r x) (among r (A ++ B)) (not-so (same-run r x) (λ e. clash (same-run-sym r x e) (neither-left (same-run x r) (among x (A ++ B)) other))) (k .0),
+      or-from (same-run r x) (among r (A ++ B)) (not-so (same-run r x) (λ e. clash (sym (same-run-swap r x) ∙ e) (neither-left (same-run x r) (among x (A ++ B)) other))) (k .0),
       (neither-right (same-run x r) (among x (A ++ B)) other, k .1),
     )
 different-moved (k ∷ K) A r B d = (among-moved k K A r B ∙ d .0, different-moved K A r B (d .1))
@@ -203,7 +203,8 @@ moved t q (withdraw n) a = record { same = λ x. refl; different = λ d. d; leng
 moved t q (report i g) a = moved-report q i g (ltb-true i (length (q .running)) a)
 
 -- REQUESTS. What holds of the runs that still run, and is kept by one request, holds once all were requested.
-request-keeps : (b : ℕ) (vs : List Verdict) (all : List Run) (P : List Run → Type 0) → ((rs : List Run) (u : Run) → among u all ≡ true → length rs < b → among u (known vs ++ rs) ≡ false → P rs → P (rs ++ u ∷ [])) →
+request-keeps : (b : ℕ) (vs : List Verdict) (all : List Run) (P : List Run → Type 0) →
+    ((rs : List Run) (u : Run) → among u all ≡ true → length rs < b → among u (known vs ++ rs) ≡ false → P rs → P (rs ++ u ∷ [])) →
     (us rs : List Run) → Sub us all → P rs → P (request b vs rs us)
 unfolding request
 request-keeps b vs all P k [] rs s h = h
@@ -239,7 +240,8 @@ filled b vs us still d l = request-keeps b vs us (Filled b (known vs) still us)
     us still (λ r e. e) (record { new = []; is = sym (append-nil still); useful = λ r e. absurd (true≢false (sym e)); different = d; few = l })
 
 -- while a bench is free, every useful run is requested
-pub booked : (b : ℕ) (vs : List Verdict) (us rs : List Run) → length (request b vs rs us) < b → Sub (known vs ++ rs) (known vs ++ request b vs rs us) × Sub us (known vs ++ request b vs rs us)
+pub booked : (b : ℕ) (vs : List Verdict) (us rs : List Run) → length (request b vs rs us) < b →
+    Sub (known vs ++ rs) (known vs ++ request b vs rs us) × Sub us (known vs ++ request b vs rs us)
 unfolding request
 booked b vs [] rs l = (λ r e. e, λ r e. absurd (true≢false (sym e)))
 booked b vs (u ∷ us) rs l = go (ltb (length rs) b && lacks vs rs u) refl l (booked b vs us)
@@ -281,7 +283,8 @@ pub kept-append : (test : Run → Bool) (xs ys : List Run) → kept test (xs ++ 
 kept-append test [] ys = refl
 kept-append test (x ∷ xs) ys = go (kept-append test xs ys) (test x)
   where
-    go : kept test (xs ++ ys) ≡ kept test xs ++ kept test ys → (b : Bool) → cond b (x ∷ kept test (xs ++ ys)) (kept test (xs ++ ys)) ≡ cond b (x ∷ kept test xs) (kept test xs) ++ kept test ys
+    go : kept test (xs ++ ys) ≡ kept test xs ++ kept test ys → (b : Bool) →
+        cond b (x ∷ kept test (xs ++ ys)) (kept test (xs ++ ys)) ≡ cond b (x ∷ kept test xs) (kept test xs) ++ kept test ys
     go ih true = ap (λ (rs : List Run). x ∷ rs) ih
     go ih false = ih
 
@@ -289,7 +292,8 @@ known-still : (us : List Run) (vs : List Verdict) → known (still-known us vs) 
 known-still us [] = refl
 known-still us (v ∷ vs) = go (known-still us vs) (among (v .run) us)
   where
-    go : known (still-known us vs) ≡ kept (λ r. among r us) (known vs) → (b : Bool) → known (cond b (v ∷ still-known us vs) (still-known us vs)) ≡ cond b (v .run ∷ kept (λ r. among r us) (known vs)) (kept (λ r. among r us) (known vs))
+    go : known (still-known us vs) ≡ kept (λ r. among r us) (known vs) → (b : Bool) →
+        known (cond b (v ∷ still-known us vs) (still-known us vs)) ≡ cond b (v .run ∷ kept (λ r. among r us) (known vs)) (kept (λ r. among r us) (known vs))
     go ih true = ap (λ (rs : List Run). v .run ∷ rs) ih
     go ih false = ih
 

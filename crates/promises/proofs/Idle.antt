@@ -10,18 +10,18 @@ use Rattle.std.proofs.shelf.Tests.{not-true, or-from, and-cases}
 use Rattle.std.specs.shelf.Lists.{All}
 use Rattle.run.specs.declared.known.Known.{Known}
 use Rattle.run.specs.declared.known.Known.the-variants.{Nothing, Good, Bad}
+use Rattle.run.proofs.Compared.{same-run-true}
 use Rattle.change.specs.Change.{Change, has, share}
 use Rattle.run.specs.Run.{Run, Verdict, same-run, heard, is-good, is-bad, is-unknown, run-on, runs-on}
+use Rattle.run.specs.State.{Config, Queue, empty}
 use Rattle.decide.specs.Decide.{any-bad, all-good, shares-any, pass}
 use Rattle.plan.specs.Plan.{useful, among, still-running, still-known, useful-in, planned}
-use Rattle.run.specs.State.{Config, Queue, empty}
 use Rattle.queue.specs.Queue.{Event, recorded, decided, step, replayed}
-use Rattle.queue.specs.WorkedDay.{run}
 use Rattle.promises.specs.Day.{held}
 use Rattle.promises.specs.Promises.{Never-idle, Fully-booked, Decided-when-known}
 use Rattle.promises.proofs.Basics.{clash, neither-left, neither-right, Off, off-sym, line-off, has-head, has-tail}
 use Rattle.promises.proofs.Serial.{Loose, Apart}
-use Rattle.promises.proofs.Pass.{same-run-is, shares-apart, Why-wait, for-parts, for-runs, pass-by}
+use Rattle.promises.proofs.Pass.{shares-apart, Why-wait, for-parts, for-runs, pass-by}
 use Rattle.promises.proofs.Marks.{no-cons}
 use Rattle.promises.proofs.Days.{day-keeps}
 use Rattle.promises.proofs.Runs.{among-left, among-cases, Sub, all-from}
@@ -65,7 +65,8 @@ row-at : (Q : List Change → Change → Type 0) (pre before : List Change) (c :
 row-at Q pre [] c rest r = subst (λ (x : List Change). Q x c) (sym (append-nil pre)) (r .0)
 row-at Q pre (b ∷ before) c rest r = subst (λ (x : List Change). Q x c) (append-assoc pre (b ∷ []) before) (row-at Q (pre ++ b ∷ []) before c rest (r .1))
 
-row-map : (T : Change → Type 0) (Q R : List Change → Change → Type 0) → ((pre : List Change) (w : Change) → T w → Q pre w → R pre w) → (pre ws : List Change) → All T ws → Row Q pre ws → Row R pre ws
+row-map : (T : Change → Type 0) (Q R : List Change → Change → Type 0) → ((pre : List Change) (w : Change) → T w → Q pre w → R pre w) → (pre ws : List Change) → All T ws →
+    Row Q pre ws → Row R pre ws
 row-map T Q R k pre [] a r = tt
 row-map T Q R k pre (w ∷ ws) a r = (k pre w (a .0) (r .0), row-map T Q R k (pre ++ w ∷ []) ws (a .1) (r .1))
 
@@ -94,9 +95,9 @@ heard-still us r (v ∷ vs) = go (heard-still us r vs) (same-run r (v .run)) ref
 
     go : heard r (still-known us vs) ≡ cond (among r us) (heard r vs) Nothing → (b : Bool) → same-run r (v .run) ≡ b → (m : Bool) → among (v .run) us ≡ m →
         heard r (cond m (v ∷ still-known us vs) (still-known us vs)) ≡ cond (among r us) (cond b said (heard r vs)) Nothing
-    go ih true k true j = ap (λ (x : Bool). cond x said (heard r (still-known us vs))) k ∙ sym (ap (λ (x : Bool). cond x said Nothing) (ap (λ (s : Run). among s us) (same-run-is r (v .run) k) ∙ j))
+    go ih true k true j = ap (λ (x : Bool). cond x said (heard r (still-known us vs))) k ∙ sym (ap (λ (x : Bool). cond x said Nothing) (ap (λ (s : Run). among s us) (same-run-true r (v .run) k) ∙ j))
     go ih true k false j =
-        let gone : among r us ≡ false = ap (λ (s : Run). among s us) (same-run-is r (v .run) k) ∙ j in
+        let gone : among r us ≡ false = ap (λ (s : Run). among s us) (same-run-true r (v .run) k) ∙ j in
         ih ∙ ap (λ (x : Bool). cond x (heard r vs) Nothing) gone ∙ sym (ap (λ (x : Bool). cond x said Nothing) gone)
     go ih false k true j = ap (λ (x : Bool). cond x said (heard r (still-known us vs))) k ∙ ih
     go ih false k false j = ih
@@ -119,7 +120,8 @@ all-good-still us (r ∷ rs) vs e = go (all-good-still us rs vs) (and-cases (is-
     not-good k true = k
     not-good k false = refl
 
-    go : (all-good rs vs ≡ false → all-good rs (still-known us vs) ≡ false) → (is-good (heard r vs) ≡ false) ⊎ (all-good rs vs ≡ false) → (is-good (heard r (still-known us vs)) && all-good rs (still-known us vs)) ≡ false
+    go : (all-good rs vs ≡ false → all-good rs (still-known us vs) ≡ false) → (is-good (heard r vs) ≡ false) ⊎ (all-good rs vs ≡ false) →
+        (is-good (heard r (still-known us vs)) && all-good rs (still-known us vs)) ≡ false
     go ih (inl k) = ap (λ (b : Bool). b && all-good rs (still-known us vs)) (ap is-good (heard-still us r vs) ∙ not-good k (among r us))
     go ih (inr k) = ap (_&&_ (is-good (heard r (still-known us vs)))) (ih k) ∙ and-false (is-good (heard r (still-known us vs)))
 
@@ -162,7 +164,8 @@ lacks-at ks L n (p ∷ ps) i j = go (lacks-at ks L n ps (neither-right (is-bad (
     r : Run
     r = run-on L n p
 
-    go : (all-good (runs-on L n ps) ks ≡ false → Lacks ks L n ps) → (b : Bool) → is-good (heard r ks) ≡ b → (b && all-good (runs-on L n ps) ks) ≡ false → Lacks ks L n (p ∷ ps)
+    go : (all-good (runs-on L n ps) ks ≡ false → Lacks ks L n ps) → (b : Bool) → is-good (heard r ks) ≡ b → (b && all-good (runs-on L n ps) ks) ≡ false →
+        Lacks ks L n (p ∷ ps)
     go ih true k h = let m = ih h in (m .0, has-tail p ps (m .0) (m .1), m .2)
     go ih false k h = (p, has-head p ps, unknown-from (heard r ks) (neither-left (is-bad (heard r ks)) (any-bad (runs-on L n ps) ks) i) k)
 

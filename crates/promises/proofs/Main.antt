@@ -10,11 +10,10 @@ use Rattle.std.specs.shelf.Lists.{All}
 use Rattle.std.proofs.shelf.Elements.{all-push}
 use Rattle.change.specs.Change.{Change, line, numbered, dropped}
 use Rattle.run.specs.Run.{Verdict}
+use Rattle.run.specs.State.{Config, Queue, empty}
 use Rattle.serial.specs.Serial.{Bench, passes, serial-landed, serial-rejected}
 use Rattle.plan.specs.Plan.{among, useful-in, planned}
-use Rattle.run.specs.State.{Config, Queue, empty}
 use Rattle.queue.specs.Queue.{Event, submit, withdraw, report, used, accepts, no-run, recorded, decided, step, replayed}
-use Rattle.queue.specs.WorkedDay.{run, numbers}
 use Rattle.promises.specs.Day.{blank, arrivals-with, reported-by, logged, Truthful, not-waiting}
 use Rattle.promises.specs.Promises.{Serial-equivalence}
 use Rattle.promises.proofs.Basics.{neither-left, neither-right, numbered-push, all-both, all-kept}
@@ -136,7 +135,8 @@ inv-decided f t C q i = record {
 }
 
 -- so does recording an event: other marks, with the same decisions
-same-matches : (f : Bench) (C L W B C′ W′ : List Change) (g : Matches f C L W B) (M : List Mark) → arrived M ≡ C′ → waits M ≡ W′ → Sound f [] [] M → lands M ≡ lands (g .marks) → rejects M ≡ rejects (g .marks) → Matches f C′ L W′ B
+same-matches : (f : Bench) (C L W B C′ W′ : List Change) (g : Matches f C L W B) (M : List Mark) → arrived M ≡ C′ → waits M ≡ W′ → Sound f [] [] M →
+    lands M ≡ lands (g .marks) → rejects M ≡ rejects (g .marks) → Matches f C′ L W′ B
 same-matches f C L W B C′ W′ g M x y z i t = record {
   marks = M;
   arrived-is = x;
@@ -165,7 +165,8 @@ new-number f C q n e i =
     behind = neither-right (numbered n (q .landed)) (numbered n (q .waiting) || numbered n (q .rejected)) e
 
 -- a submission waits behind all, a withdrawal leaves its place, a report is true
-inv-recorded : (f : Bench) (t : Config) (C : List Change) (q : Queue) (e : Event) → accepts t q e ≡ true → Truthful f (reported-by q e) → Inv f C q → Inv f (arrivals-with e C) (recorded q e)
+inv-recorded : (f : Bench) (t : Config) (C : List Change) (q : Queue) (e : Event) → accepts t q e ≡ true → Truthful f (reported-by q e) → Inv f C q →
+    Inv f (arrivals-with e C) (recorded q e)
 unfolding accepts recorded
 inv-recorded f t C q (submit c) a r i = record {
   matches = same-matches f C (q .landed) (q .waiting) (q .rejected) (C ++ c ∷ []) (q .waiting ++ c ∷ []) g (m ++ wait c ∷ [])

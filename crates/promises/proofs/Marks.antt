@@ -195,14 +195,16 @@ passes-later f (land d ∷ m) X V c U k =
 passes-later f (reject d ∷ m) X V c U k = passes-later f m X V c U (k .1)
 
 -- nothing that landed behind it touches its parts
-lands-off : (f : Bench) (m : List Mark) (X V : List Change) (c : Change) (U : List Change) → Sound f X (V ++ c ∷ U) m → (p : ℕ) → has (c .parts) p ≡ true → line p (lands m) ≡ []
+lands-off : (f : Bench) (m : List Mark) (X V : List Change) (c : Change) (U : List Change) → Sound f X (V ++ c ∷ U) m → (p : ℕ) → has (c .parts) p ≡ true →
+    line p (lands m) ≡ []
 lands-off f [] X V c U k p h = refl
 lands-off f (wait w ∷ m) X V c U k p h = lands-off f m X V c (U ++ w ∷ []) (subst (λ (b : List Change). Sound f X b m) (append-assoc V (c ∷ U) (w ∷ [])) k) p h
 lands-off f (land d ∷ m) X V c U k p h = line-skip p d (lands m) (off-sym (d .parts) (c .parts) (all-at (Loose d) V c U (k .0 .clear)) p h) ∙ lands-off f m (X ++ d ∷ []) V c U (k .1) p h
 lands-off f (reject d ∷ m) X V c U k p h = lands-off f m X V c U (k .1) p h
 
 -- so to land in its place and to land behind all is the same on every part
-pub line-place : (f : Bench) (m : List Mark) (X V : List Change) (c : Change) (U : List Change) → Sound f X (V ++ c ∷ U) m → (A : List Change) (p : ℕ) → line p (A ++ lands m ++ c ∷ []) ≡ line p (A ++ c ∷ lands m)
+pub line-place : (f : Bench) (m : List Mark) (X V : List Change) (c : Change) (U : List Change) → Sound f X (V ++ c ∷ U) m → (A : List Change) (p : ℕ) →
+    line p (A ++ lands m ++ c ∷ []) ≡ line p (A ++ c ∷ lands m)
 line-place f m X V c U k A p = go (has (c .parts) p) refl
   where
     one : line p (A ++ lands m ++ c ∷ []) ≡ line p (A ++ lands m) ++ line p (c ∷ [])
@@ -253,7 +255,8 @@ pub numbers-apart : (m : List Mark) → Distinct (arrived m) → (n : ℕ) → n
 numbers-apart [] u n e = refl
 numbers-apart (wait c ∷ m) u n e = go (numbers-apart m (u .1) n) (eqb (c .number) n) refl e
   where
-    go : (numbered n (waits m) ≡ true → numbered n (ended m) ≡ false) → (b : Bool) → eqb (c .number) n ≡ b → (b || numbered n (waits m)) ≡ true → numbered n (ended m) ≡ false
+    go : (numbered n (waits m) ≡ true → numbered n (ended m) ≡ false) → (b : Bool) → eqb (c .number) n ≡ b → (b || numbered n (waits m)) ≡ true →
+        numbered n (ended m) ≡ false
     go ih true k h = neither-right (numbered n (waits m)) (numbered n (ended m)) (sym (numbers-split n m) ∙ subst (λ (x : ℕ). numbered x (arrived m) ≡ false) (eqb-true (c .number) n k) (u .0))
     go ih false k h = ih h
 numbers-apart (land c ∷ m) u n e = or-from (eqb (c .number) n) (numbered n (ended m)) (ended-apart m c n (u .0) e) (numbers-apart m (u .1) n e)
@@ -266,11 +269,13 @@ waits-not W c ds o = go (numbered (c .number) W) refl
     go true k = clash (numbered-head c ds) (o (c .number) k)
     go false k = k
 
-ended-tail : (W : List Change) (c : Change) (ds : List Change) → ((n : ℕ) → numbered n W ≡ true → numbered n (c ∷ ds) ≡ false) → (n : ℕ) → numbered n W ≡ true → numbered n ds ≡ false
+ended-tail : (W : List Change) (c : Change) (ds : List Change) → ((n : ℕ) → numbered n W ≡ true → numbered n (c ∷ ds) ≡ false) → (n : ℕ) → numbered n W ≡ true →
+    numbered n ds ≡ false
 ended-tail W c ds o n e = neither-right (eqb (c .number) n) (numbered n ds) (o n e)
 
 -- so the arrivals that do not wait are the decided ones
-not-waiting-from : (W : List Change) (m : List Mark) → ((n : ℕ) → numbered n (waits m) ≡ true → numbered n W ≡ true) → ((n : ℕ) → numbered n W ≡ true → numbered n (ended m) ≡ false) → not-waiting (arrived m) W ≡ ended m
+not-waiting-from : (W : List Change) (m : List Mark) → ((n : ℕ) → numbered n (waits m) ≡ true → numbered n W ≡ true) →
+    ((n : ℕ) → numbered n W ≡ true → numbered n (ended m) ≡ false) → not-waiting (arrived m) W ≡ ended m
 not-waiting-from W [] i o = refl
 not-waiting-from W (wait c ∷ m) i o =
     ap (λ (b : Bool). cond b (not-waiting (arrived m) W) (c ∷ not-waiting (arrived m) W)) (i (c .number) (numbered-head c (waits m)))

@@ -3,14 +3,13 @@ use mathlib.Core.Path.{_≡_, refl, sym, ap, ap₂, subst, _∙_}
 use mathlib.Core.Bool.{Bool, true, false, cond, _||_, _&&_, and-false, true≢false}
 use mathlib.Core.List.{List, [], _∷_, _++_, append-nil, append-assoc}
 use Prim.Native.Nat.{ℕ}
-use lib.Dec.{eqb}
-use Rattle.std.proofs.shelf.Tests.{eqb-true, eq-eqb}
 use Rattle.std.specs.shelf.Lists.{All}
 use Rattle.decide.specs.declared.decision.Decision.{Decision}
 use Rattle.decide.specs.declared.decision.Decision.the-variants.{Wait, Land, Reject}
 use Rattle.run.specs.declared.known.Known.the-variants.{Good, Bad}
+use Rattle.run.proofs.Compared.{same-run-true}
 use Rattle.change.specs.Change.{Change, share}
-use Rattle.run.specs.Run.{Run, Verdict, same-list, same-run, heard, is-good, is-bad, run-on, runs-on}
+use Rattle.run.specs.Run.{Run, Verdict, same-run, heard, is-good, is-bad, run-on, runs-on}
 use Rattle.serial.specs.Serial.{Bench, passes-on}
 use Rattle.decide.specs.Decide.{any-bad, all-good, shares-any, decision, by-decision, Passed, pass}
 use Rattle.promises.specs.Day.{Truthful}
@@ -25,26 +24,6 @@ pub truthful-vouched : (f : Bench) (ks : List Verdict) → Truthful f ks → Vou
 truthful-vouched f [] t = tt
 truthful-vouched f (v ∷ ks) t = (λ e. sym (t .0) ∙ e, truthful-vouched f ks (t .1))
 
--- runs that the test calls the same are the same
-same-list-is : (xs ys : List ℕ) → same-list xs ys ≡ true → xs ≡ ys
-same-list-is [] [] e = refl
-same-list-is [] (y ∷ ys) e = absurd (true≢false (sym e))
-same-list-is (x ∷ xs) [] e = absurd (true≢false (sym e))
-same-list-is (x ∷ xs) (y ∷ ys) e =
-    ap₂ (λ (a : ℕ) (r : List ℕ). a ∷ r) (eqb-true x y (both-left (eqb x y) (same-list xs ys) e)) (same-list-is xs ys (both-right (eqb x y) (same-list xs ys) e))
-
-same-list-refl : (xs : List ℕ) → same-list xs xs ≡ true
-same-list-refl [] = refl
-same-list-refl (x ∷ xs) = ap₂ _&&_ (eq-eqb x x refl) (same-list-refl xs)
-
-pub same-run-is : (r s : Run) → same-run r s ≡ true → r ≡ s
-same-run-is r s e =
-    ap₂ (λ (a : ℕ) (w : List ℕ). record { part = a; changes = w }) (eqb-true (r .part) (s .part) (both-left (eqb (r .part) (s .part)) (same-list (r .changes) (s .changes)) e))
-    (same-list-is (r .changes) (s .changes) (both-right (eqb (r .part) (s .part)) (same-list (r .changes) (s .changes)) e))
-
-pub same-run-refl : (r : Run) → same-run r r ≡ true
-same-run-refl r = ap₂ _&&_ (eq-eqb (r .part) (r .part) refl) (same-list-refl (r .changes))
-
 abbrev pub says : Bench → Run → Bool
 says f r = f (r .part) (r .changes)
 
@@ -53,22 +32,25 @@ heard-bad : (f : Bench) (r : Run) (ks : List Verdict) → Truthful f ks → is-b
 heard-bad f r [] t e = absurd (true≢false (sym e))
 heard-bad f r (v ∷ ks) t e = go (heard-bad f r ks (t .1)) (same-run r (v .run)) refl (v .good) refl e
   where
-    go : (is-bad (heard r ks) ≡ true → says f r ≡ false) → (b : Bool) → same-run r (v .run) ≡ b → (g : Bool) → v .good ≡ g → is-bad (cond b (cond g Good Bad) (heard r ks)) ≡ true → says f r ≡ false
+    go : (is-bad (heard r ks) ≡ true → says f r ≡ false) → (b : Bool) → same-run r (v .run) ≡ b → (g : Bool) → v .good ≡ g →
+        is-bad (cond b (cond g Good Bad) (heard r ks)) ≡ true → says f r ≡ false
     go ih true k true j h = absurd (true≢false (sym h))
-    go ih true k false j h = ap (says f) (same-run-is r (v .run) k) ∙ sym (t .0) ∙ j
+    go ih true k false j h = ap (says f) (same-run-true r (v .run) k) ∙ sym (t .0) ∙ j
     go ih false k g j h = ih h
 
 heard-good : (f : Bench) (r : Run) (ks : List Verdict) → Vouched f ks → is-good (heard r ks) ≡ true → says f r ≡ true
 heard-good f r [] t e = absurd (true≢false (sym e))
 heard-good f r (v ∷ ks) t e = go (heard-good f r ks (t .1)) (same-run r (v .run)) refl (v .good) refl e
   where
-    go : (is-good (heard r ks) ≡ true → says f r ≡ true) → (b : Bool) → same-run r (v .run) ≡ b → (g : Bool) → v .good ≡ g → is-good (cond b (cond g Good Bad) (heard r ks)) ≡ true → says f r ≡ true
+    go : (is-good (heard r ks) ≡ true → says f r ≡ true) → (b : Bool) → same-run r (v .run) ≡ b → (g : Bool) → v .good ≡ g →
+        is-good (cond b (cond g Good Bad) (heard r ks)) ≡ true → says f r ≡ true
     go ih true k false j h = absurd (true≢false (sym h))
-    go ih true k true j h = ap (says f) (same-run-is r (v .run) k) ∙ t .0 j
+    go ih true k true j h = ap (says f) (same-run-true r (v .run) k) ∙ t .0 j
     go ih false k g j h = ih h
 
 -- a change with a bad run does not pass
-pub bad-fails : (f : Bench) (ks : List Verdict) → Truthful f ks → (xs : List Change) (c : Change) (ps : List ℕ) → any-bad (runs-on xs (c .number) ps) ks ≡ true → passes-on f xs c ps ≡ false
+pub bad-fails : (f : Bench) (ks : List Verdict) → Truthful f ks → (xs : List Change) (c : Change) (ps : List ℕ) → any-bad (runs-on xs (c .number) ps) ks ≡ true →
+    passes-on f xs c ps ≡ false
 unfolding passes-on
 bad-fails f ks t xs c [] e = absurd (true≢false (sym e))
 bad-fails f ks t xs c (p ∷ ps) e = go (bad-fails f ks t xs c ps) (is-bad (heard r ks)) refl e
@@ -76,12 +58,14 @@ bad-fails f ks t xs c (p ∷ ps) e = go (bad-fails f ks t xs c ps) (is-bad (hear
     r : Run
     r = run-on xs (c .number) p
 
-    go : (any-bad (runs-on xs (c .number) ps) ks ≡ true → passes-on f xs c ps ≡ false) → (b : Bool) → is-bad (heard r ks) ≡ b → (b || any-bad (runs-on xs (c .number) ps) ks) ≡ true → (says f r && passes-on f xs c ps) ≡ false
+    go : (any-bad (runs-on xs (c .number) ps) ks ≡ true → passes-on f xs c ps ≡ false) → (b : Bool) → is-bad (heard r ks) ≡ b →
+        (b || any-bad (runs-on xs (c .number) ps) ks) ≡ true → (says f r && passes-on f xs c ps) ≡ false
     go ih true k h = ap (λ (b : Bool). b && passes-on f xs c ps) (heard-bad f r ks t k)
     go ih false k h = ap (λ (b : Bool). says f r && b) (ih h) ∙ and-false (says f r)
 
 -- one with all runs good does
-pub good-passes : (f : Bench) (ks : List Verdict) → Vouched f ks → (xs : List Change) (c : Change) (ps : List ℕ) → all-good (runs-on xs (c .number) ps) ks ≡ true → passes-on f xs c ps ≡ true
+pub good-passes : (f : Bench) (ks : List Verdict) → Vouched f ks → (xs : List Change) (c : Change) (ps : List ℕ) → all-good (runs-on xs (c .number) ps) ks ≡ true →
+    passes-on f xs c ps ≡ true
 unfolding passes-on
 good-passes f ks t xs c [] e = refl
 good-passes f ks t xs c (p ∷ ps) e =
@@ -122,7 +106,8 @@ why : (ks : List Verdict) (L H : List Change) (c : Change) → Why ks L H c (dec
 unfolding decision
 why ks L H c = go (shares-any c H) refl (any-bad (runs-on L (c .number) (c .parts)) ks) refl (all-good (runs-on L (c .number) (c .parts)) ks) refl
   where
-    go : (s : Bool) → shares-any c H ≡ s → (b : Bool) → any-bad (runs-on L (c .number) (c .parts)) ks ≡ b → (g : Bool) → all-good (runs-on L (c .number) (c .parts)) ks ≡ g →
+    go : (s : Bool) → shares-any c H ≡ s → (b : Bool) → any-bad (runs-on L (c .number) (c .parts)) ks ≡ b → (g : Bool) →
+        all-good (runs-on L (c .number) (c .parts)) ks ≡ g →
         Why ks L H c (cond s Wait (cond b Reject (cond g Land Wait)))
     go true e b i g j = for-parts e
     go false e true i g j = record { apart = shares-apart c H e; bad = i }
@@ -152,7 +137,8 @@ pass-by ks P w l b (c ∷ R) L H B h = go (decision ks H L c) (why ks L H c)
     s₂ : Passed
     s₂ = pass ks H L (B ++ c ∷ []) R
 
-    go : (x : Decision) → Why ks L H c x → (P L (H ++ c ∷ []) R B → P (s₀ .landed) (s₀ .waiting) [] (s₀ .rejected)) → (P (L ++ c ∷ []) H R B → P (s₁ .landed) (s₁ .waiting) [] (s₁ .rejected)) →
+    go : (x : Decision) → Why ks L H c x → (P L (H ++ c ∷ []) R B → P (s₀ .landed) (s₀ .waiting) [] (s₀ .rejected)) →
+        (P (L ++ c ∷ []) H R B → P (s₁ .landed) (s₁ .waiting) [] (s₁ .rejected)) →
         (P L H R (B ++ c ∷ []) → P (s₂ .landed) (s₂ .waiting) [] (s₂ .rejected)) → P (by-decision x s₀ s₁ s₂ .landed) (by-decision x s₀ s₁ s₂ .waiting) [] (by-decision x s₀ s₁ s₂ .rejected)
     go Wait y q₀ q₁ q₂ = q₀ (w L H c R B y h)
     go Land y q₀ q₁ q₂ = q₁ (l L H c R B y h)

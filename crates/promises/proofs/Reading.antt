@@ -1,277 +1,178 @@
--- The day over lent numbers is the day on records. Assumes nothing.
+-- The day over lent numbers is the day on records, and takes the same events. Assumes nothing.
 use mathlib.Core.Path.{_≡_, refl, sym, ap, ap₂, subst, subst₂, _∙_}
-use mathlib.Core.Bool.{Bool, true, false, cond, _&&_, not, true≢false}
+use mathlib.Core.Bool.{Bool, true, false, cond, _&&_, not, and-assoc, true≢false}
 use mathlib.Core.List.{List, [], _∷_}
 use mathlib.Core.Logic.{_⊎_, inl, inr}
 use Prim.Native.Nat.{ℕ, zero, suc, _+_, _≤_, _<_}
 use native.Mathlib.Omega.{arith}
 use lib.Dec.{ltb, leb}
 use lib.ListN.{length, getD, drop}
-use Rattle.std.proofs.shelf.Tests.{not-true, lt-ltb, leb-true, and-from}
-use Rattle.std.specs.Options.{mapped, isSome}
-use Rattle.std.specs.declared.option.Option.{Option}
+use Rattle.std.proofs.shelf.Tests.{lt-ltb, leb-true}
 use Rattle.std.specs.declared.option.Option.the-variants.{Some, None}
 use Rattle.std.proofs.shelf.Lists.{getD-drop}
 use Rattle.queue.specs.declared.reply.Reply.{Reply}
 use Rattle.queue.specs.declared.reply.Reply.the-variants.{Done}
-use Rattle.queue.specs.declared.reply.Refusal.{Refusal}
-use Rattle.queue.specs.declared.reply.Refusal.the-variants.{Benches, Depth, NumberUsed, Parts, NotWaiting, NotRunning, WaitingFull, LandedFull, RejectedFull, VerdictsFull, RequestsSpent}
+use Rattle.queue.specs.declared.reply.Refusal.the-variants.{Malformed, Benches, Depth, NumberUsed, Parts, NotWaiting, NotRunning, WaitingFull, LandedFull, RejectedFull, VerdictsFull, RequestsSpent}
 use Rattle.run.proofs.Round.{decode-encode}
 use Rattle.change.specs.Change.{most-parts, Change, numbered, fault}
 use Rattle.change.specs.Records.{change-in}
 use Rattle.run.specs.Layout.{most-landed, most-waiting, most-rejected, most-verdicts, most-benches, most-depth, number-limit, benches-at, depth-at, landed-count, waiting-count, rejected-count, verdicts-count, running-count, requested-at, queue-length, event-length}
 use Rattle.run.specs.State.{Config, Queue, empty}
-use Rattle.queue.specs.Queue.{Event, submit, used, fresh, proper, roomy, accepts, step, after, replayed}
-use Rattle.queue.specs.Events.{event-by, event-in}
 use Rattle.run.specs.Numbers.{config-in, landed-in, waiting-in, rejected-in, decode, encode, Fits}
-use Rattle.queue.specs.Refusals.{Check, then, unless, length-check, queue-check, benches-check, depth-check, event-check, number-check, parts-check, waits-check, place-check, room-check, verdicts-check, requests-check, kind-check, report-kind, front-check, refusal}
+use Rattle.queue.specs.Queue.{Event, used, fresh, proper, roomy, accepts, step, after, replayed}
+use Rattle.queue.specs.Events.{event-by, event-in}
+use Rattle.queue.specs.Refusals.{Check, then, length-check, benches-check, depth-check, number-check, parts-check, waits-check, place-check, room-check, verdicts-check, requests-check, kind-check, report-kind, front-check, refusal}
 use Rattle.queue.specs.Entry.{unless-refused, config, opened, stepped-to, stepped}
 use Rattle.promises.specs.Day.{logged}
 use Rattle.promises.specs.Promises.{As-serial, All-tested}
 use Rattle.promises.specs.Lent.{is-done, lent-day, taken-events, All-accepted, Lent-days, parts-counted, well-formed, Lent-taken, Lent-serial-equivalence, Lent-every-state-tested}
 use Rattle.promises.proofs.Basics.{both-left, both-right}
-use Rattle.promises.proofs.Pass.{says}
 use Rattle.promises.proofs.Days.{after-taken, Reached, reached-empty, reached-after}
 use Rattle.promises.proofs.Main.{serial-equivalence}
 use Rattle.promises.proofs.Tested.{every-state-tested}
 use Rattle.promises.proofs.Fit.{room-day, few-verdicts, fits-day}
-use Rattle.promises.proofs.Checked.{then-from, unless-from, Says, says-encode, queue-checked}
+use Rattle.promises.proofs.Checked.{passed, Tests, turned, tests-both, tests-unless, tests-found, Says, says-encode, queue-checked}
 use Rattle.queue.specs.declared.reply.Refusal.the-variants as refused
 
--- CHECKS. One that does not refuse was met.
-then-none : (c d : Check) → then c d ≡ None → (c ≡ None) × (d ≡ None)
-then-none None d e = (refl, e)
-then-none (Some r) d e = absurd (true≢false (ap isSome e))
+-- ONE EVENT. What its kind asks of it is what records ask, that its parts are counted, and that requests can be.
+abbrev Taken-kind : Config → Queue → List ℕ → ℕ → Bool
+Taken-kind t q es k = parts-counted k es && (accepts t q (event-by k (drop 1 es)) && ltb (q .requested) number-limit)
 
-unless-none : (b : Bool) (r : Refusal) → unless b r ≡ None → b ≡ true
-unless-none true r e = refl
-unless-none false r e = absurd (true≢false (ap isSome e))
-
-mapped-none : (f : ℕ → Refusal) (o : Option ℕ) → mapped f o ≡ None → isSome o ≡ false
-mapped-none f None e = refl
-mapped-none f (Some x) e = absurd (true≢false (ap isSome e))
-
--- a submission that meets its checks is taken on records
-accepts-submit : (t : Config) (q : Queue) (behind xs es : List ℕ) → Says t q behind xs → kind-check 0 xs es ≡ None → accepts t q (submit (change-in (drop 1 es))) ≡ true
+tests-kind : (t : Config) (q : Queue) (behind xs es : List ℕ) → Says t q behind xs → length (q .verdicts) < most-verdicts → (k : ℕ) →
+    Tests (kind-check k xs es) (Taken-kind t q es k)
 unfolding decode accepts
-accepts-submit t q behind xs es s e = and-from (fresh q (c .number)) (proper c && roomy q) new (and-from (proper c) (roomy q) formed room)
+tests-kind t q behind xs es s v = go
   where
+    n : ℕ
+    n = getD es 1 0
+
     c : Change
     c = change-in (drop 1 es)
 
-    n : ℕ
-    n = getD es 1 0
-
-    first : (number-check xs n ≡ None) × (then (parts-check es) (then (room-check xs) (requests-check xs)) ≡ None)
-    first = then-none (number-check xs n) (then (parts-check es) (then (room-check xs) (requests-check xs))) e
-
-    second : (parts-check es ≡ None) × (then (room-check xs) (requests-check xs) ≡ None)
-    second = then-none (parts-check es) (then (room-check xs) (requests-check xs)) (first .1)
-
-    new : fresh q (c .number) ≡ true
-    new = ap (λ (m : ℕ). fresh q m) (getD-drop 1 es 0 0) ∙ ap (λ (p : Queue). fresh p n) (sym (s .decode-is))
-        ∙ unless-none (not (used n (landed-in xs) (waiting-in xs) (rejected-in xs))) (NumberUsed n) (first .0)
-
-    formed : proper c ≡ true
-    formed = ap not (mapped-none Parts (fault c) (then-none (unless (leb (getD es 2 0) most-parts) (Parts most-parts)) (mapped Parts (fault c)) (second .0) .1))
-
-    w : Bool
-    w = ltb (getD xs waiting-count 0) most-waiting
-
-    l : Bool
-    l = ltb (getD xs landed-count 0 + getD xs waiting-count 0) most-landed
-
-    b : Bool
-    b = ltb (getD xs rejected-count 0 + getD xs waiting-count 0) most-rejected
-
-    third : (unless w WaitingFull ≡ None) × (then (unless l LandedFull) (unless b RejectedFull) ≡ None)
-    third = then-none (unless w WaitingFull) (then (unless l LandedFull) (unless b RejectedFull)) (then-none (room-check xs) (requests-check xs) (second .1) .0)
-
-    fourth : (unless l LandedFull ≡ None) × (unless b RejectedFull ≡ None)
-    fourth = then-none (unless l LandedFull) (unless b RejectedFull) (third .1)
-
-    room : roomy q ≡ true
-    room = and-from (ltb (length (q .waiting)) most-waiting) (ltb (length (q .landed) + length (q .waiting)) most-landed && ltb (length (q .rejected) + length (q .waiting)) most-rejected)
-        (ap (λ (x : ℕ). ltb x most-waiting) (sym (s .waiting-count-is)) ∙ unless-none w WaitingFull (third .0))
-        (and-from (ltb (length (q .landed) + length (q .waiting)) most-landed) (ltb (length (q .rejected) + length (q .waiting)) most-rejected)
-        (ap₂ (λ (x y : ℕ). ltb (x + y) most-landed) (sym (s .landed-count-is)) (sym (s .waiting-count-is)) ∙ unless-none l LandedFull (fourth .0))
-        (ap₂ (λ (x y : ℕ). ltb (x + y) most-rejected) (sym (s .rejected-count-is)) (sym (s .waiting-count-is)) ∙ unless-none b RejectedFull (fourth .1)))
-
--- an event that meets the checks of its kind is taken on records
-accepts-kind : (t : Config) (q : Queue) (behind xs es : List ℕ) → Says t q behind xs → (k : ℕ) → kind-check k xs es ≡ None → accepts t q (event-by k (drop 1 es)) ≡ true
-unfolding decode accepts
-accepts-kind t q behind xs es s zero e = accepts-submit t q behind xs es s e
-accepts-kind t q behind xs es s (suc zero) e =
-    let n = getD es 1 0 in
-    ap₂ (λ (m : ℕ) (p : Queue). numbered m (p .waiting)) (getD-drop 1 es 0 0) (sym (s .decode-is)) ∙ unless-none (numbered n (waiting-in xs)) (NotWaiting n) (then-none (waits-check xs n) (requests-check xs) e .0)
-accepts-kind t q behind xs es s (suc (suc k)) e =
-    let i = getD es 1 0 in
-    ap₂ (λ (m x : ℕ). ltb m x) (getD-drop 1 es 0 0) (sym (s .running-count-is)) ∙ unless-none (ltb i (getD xs running-count 0)) (NotRunning i) (then-none (place-check xs i) (then (verdicts-check xs) (requests-check xs)) e .0)
-
--- and the other way round, if there is room for a verdict and for a count of requests
-kind-checked : (t : Config) (q : Queue) (behind xs es : List ℕ) → Says t q behind xs → length (q .verdicts) < most-verdicts → ltb (q .requested) number-limit ≡ true →
-    (k : ℕ) → parts-counted k es ≡ true → accepts t q (event-by k (drop 1 es)) ≡ true → kind-check k xs es ≡ None
-unfolding decode accepts
-kind-checked t q behind xs es s v r k p a = go k p a
-  where
-    n : ℕ
-    n = getD es 1 0
-
-    requests : requests-check xs ≡ None
-    requests = unless-from (ltb (getD xs requested-at 0) number-limit) RequestsSpent (ap (λ (x : ℕ). ltb x number-limit) (s .requested-is) ∙ r)
-
     -- the first number behind an event's kind
-    second : getD (drop 1 es) 0 0 ≡ n
-    second = getD-drop 1 es 0 0
+    second : n ≡ getD (drop 1 es) 0 0
+    second = sym (getD-drop 1 es 0 0)
 
-    none-from : (f : ℕ → Refusal) (o : Option ℕ) → isSome o ≡ false → mapped f o ≡ None
-    none-from f None e = refl
-    none-from f (Some x) e = absurd (true≢false e)
+    requests : Tests (requests-check xs) (ltb (q .requested) number-limit)
+    requests = turned (tests-unless (ltb (getD xs requested-at 0) number-limit) RequestsSpent) (ap (λ (x : ℕ). ltb x number-limit) (s .requested-is))
 
-    room : roomy q ≡ true → room-check xs ≡ None
-    room e =
-        let w = ltb (length (q .waiting)) most-waiting in
-        let l = ltb (length (q .landed) + length (q .waiting)) most-landed in
-        let b = ltb (length (q .rejected) + length (q .waiting)) most-rejected in
-        let w′ = ltb (getD xs waiting-count 0) most-waiting in
-        let l′ = ltb (getD xs landed-count 0 + getD xs waiting-count 0) most-landed in
-        let b′ = ltb (getD xs rejected-count 0 + getD xs waiting-count 0) most-rejected in
-        then-from (unless w′ WaitingFull) (then (unless l′ LandedFull) (unless b′ RejectedFull))
-        (unless-from w′ WaitingFull (ap (λ (x : ℕ). ltb x most-waiting) (s .waiting-count-is) ∙ both-left w (l && b) e))
-        (then-from (unless l′ LandedFull) (unless b′ RejectedFull)
-        (unless-from l′ LandedFull (ap₂ (λ (x y : ℕ). ltb (x + y) most-landed) (s .landed-count-is) (s .waiting-count-is) ∙ both-left l b (both-right w (l && b) e)))
-        (unless-from b′ RejectedFull (ap₂ (λ (x y : ℕ). ltb (x + y) most-rejected) (s .rejected-count-is) (s .waiting-count-is) ∙ both-right l b (both-right w (l && b) e))))
+    number : Tests (number-check xs n) (fresh q (c .number))
+    number = turned (tests-unless (not (used n (landed-in xs) (waiting-in xs) (rejected-in xs))) (NumberUsed n)) (ap₂ fresh (s .decode-is) second)
 
-    go : (k : ℕ) → parts-counted k es ≡ true → accepts t q (event-by k (drop 1 es)) ≡ true → kind-check k xs es ≡ None
-    go zero p a =
-        let c = change-in (drop 1 es) in
-        let rest = both-right (fresh q (c .number)) (proper c && roomy q) a in
-        then-from (number-check xs n) (then (parts-check es) (then (room-check xs) (requests-check xs)))
-        (unless-from (not (used n (landed-in xs) (waiting-in xs) (rejected-in xs))) (NumberUsed n)
-        (ap (λ (x : Queue). fresh x n) (s .decode-is) ∙ ap (λ (m : ℕ). fresh q m) (sym second) ∙ both-left (fresh q (c .number)) (proper c && roomy q) a))
-        (then-from (parts-check es) (then (room-check xs) (requests-check xs))
-        (then-from (unless (leb (getD es 2 0) most-parts) (Parts most-parts)) (mapped Parts (fault c)) (unless-from (leb (getD es 2 0) most-parts) (Parts most-parts) p)
-        (none-from Parts (fault c) (not-true (isSome (fault c)) (both-left (proper c) (roomy q) rest))))
-        (then-from (room-check xs) (requests-check xs) (room (both-right (proper c) (roomy q) rest)) requests))
-    go (suc zero) p a =
-        then-from (waits-check xs n) (requests-check xs)
-        (unless-from (numbered n (waiting-in xs)) (NotWaiting n) (ap₂ (λ (m : ℕ) (x : Queue). numbered m (x .waiting)) (sym second) (s .decode-is) ∙ a)) requests
-    go (suc (suc k)) p a =
-        then-from (place-check xs n) (then (verdicts-check xs) (requests-check xs))
-        (unless-from (ltb n (getD xs running-count 0)) (NotRunning n) (ap₂ (λ (m x : ℕ). ltb m x) (sym second) (s .running-count-is) ∙ a))
-        (then-from (verdicts-check xs) (requests-check xs) (unless-from (ltb (getD xs verdicts-count 0) most-verdicts) VerdictsFull (lt-ltb (getD xs verdicts-count 0) most-verdicts (omega (arith, v, s .verdicts-count-is)))) requests)
+    parts : Tests (parts-check es) (leb (getD es 2 0) most-parts && proper c)
+    parts = tests-both (tests-unless (leb (getD es 2 0) most-parts) (Parts most-parts)) (tests-found Parts (fault c))
 
--- what the checks of its kind ask besides
-parts-counted-from : (xs es : List ℕ) (k : ℕ) → kind-check k xs es ≡ None → parts-counted k es ≡ true
-parts-counted-from xs es zero e =
-    let n = getD es 1 0 in
-    let c = change-in (drop 1 es) in
-    let parts = then-none (parts-check es) (then (room-check xs) (requests-check xs)) (then-none (number-check xs n) (then (parts-check es) (then (room-check xs) (requests-check xs))) e .1) .0 in
-    unless-none (leb (getD es 2 0) most-parts) (Parts most-parts) (then-none (unless (leb (getD es 2 0) most-parts) (Parts most-parts)) (mapped Parts (fault c)) parts .0)
-parts-counted-from xs es (suc k) e = refl
+    room : Tests (room-check xs) (roomy q)
+    room =
+        tests-both (turned (tests-unless (ltb (getD xs waiting-count 0) most-waiting) WaitingFull) (ap (λ (x : ℕ). ltb x most-waiting) (s .waiting-count-is)))
+        (tests-both
+        (turned (tests-unless (ltb (getD xs landed-count 0 + getD xs waiting-count 0) most-landed) LandedFull) (ap₂ (λ (x y : ℕ). ltb (x + y) most-landed) (s .landed-count-is) (s .waiting-count-is)))
+        (turned (tests-unless (ltb (getD xs rejected-count 0 + getD xs waiting-count 0) most-rejected) RejectedFull) (ap₂ (λ (x y : ℕ). ltb (x + y) most-rejected) (s .rejected-count-is) (s .waiting-count-is))))
 
-requests-from : (xs es : List ℕ) (k : ℕ) → kind-check k xs es ≡ None → ltb (getD xs requested-at 0) number-limit ≡ true
-requests-from xs es k e = unless-none (ltb (getD xs requested-at 0) number-limit) RequestsSpent (go k e)
+    waits : Tests (waits-check xs n) (numbered (getD (drop 1 es) 0 0) (q .waiting))
+    waits = turned (tests-unless (numbered n (waiting-in xs)) (NotWaiting n)) (ap₂ (λ (m : ℕ) (x : Queue). numbered m (x .waiting)) second (s .decode-is))
+
+    runs : Tests (place-check xs n) (ltb (getD (drop 1 es) 0 0) (length (q .running)))
+    runs = turned (tests-unless (ltb n (getD xs running-count 0)) (NotRunning n)) (ap₂ ltb second (s .running-count-is))
+
+    verdicts : Tests (verdicts-check xs) true
+    verdicts = turned (tests-unless (ltb (getD xs verdicts-count 0) most-verdicts) VerdictsFull) (lt-ltb (getD xs verdicts-count 0) most-verdicts (omega (arith, v, s .verdicts-count-is)))
+
+    reordered : (a b c d e : Bool) → (a && ((b && c) && (d && e))) ≡ (b && ((a && (c && d)) && e))
+    reordered true true true d e = refl
+    reordered true true false d e = refl
+    reordered true false c d e = refl
+    reordered false true c d e = refl
+    reordered false false c d e = refl
+
+    go : (k : ℕ) → Tests (kind-check k xs es) (Taken-kind t q es k)
+    go zero = turned (tests-both number (tests-both parts (tests-both room requests))) (reordered (fresh q (c .number)) (leb (getD es 2 0) most-parts) (proper c) (roomy q) (ltb (q .requested) number-limit))
+    go (suc zero) = tests-both waits requests
+    go (suc (suc k)) = tests-both runs (tests-both verdicts requests)
+
+-- a reachable queue of a config that opening takes
+abbrev benches-taken : ℕ → Bool
+benches-taken b = leb 1 b && leb b most-benches
+
+abbrev depth-taken : ℕ → Bool
+depth-taken k = leb 1 k && leb k most-depth
+
+record Lent (t : Config) (q : Queue) : Type 0 where
+  pub reached : Reached t q
+  pub benches : benches-taken (t .benches) ≡ true
+  pub depth : depth-taken (t .depth) ≡ true
+
+few-benches : (b : ℕ) → benches-taken b ≡ true → b ≤ most-benches
+few-benches b e = leb-true b most-benches (both-right (leb 1 b) (leb b most-benches) e)
+
+small-depth : (k : ℕ) → depth-taken k ≡ true → k ≤ most-depth
+small-depth k e = leb-true k most-depth (both-right (leb 1 k) (leb k most-depth) e)
+
+lent-fits : (t : Config) (q : Queue) → Lent t q → Fits q
+lent-fits t q l = subst Fits (sym (l .reached .is)) (fits-day t (l .reached .events) (small-depth (t .depth) (l .depth)) (few-benches (t .benches) (l .benches)))
+
+abbrev Taken-if : Config → Queue → List ℕ → Bool
+Taken-if t q es = well-formed es && (accepts t q (event-in es) && ltb (q .requested) number-limit)
+
+-- its numbers refuse an event by nothing else
+tests-event : (t : Config) (q : Queue) (behind xs es : List ℕ) → Lent t q → Says t q behind xs → Tests (refusal report-kind xs es) (Taken-if t q es)
+tests-event t q behind xs es l s =
+    turned (tests-both front (tests-kind t q behind xs es s few (getD es 0 0))) (sym (and-assoc form (parts-counted (getD es 0 0) es) (accepts t q (event-in es) && ltb (q .requested) number-limit)))
   where
-    n : ℕ
-    n = getD es 1 0
+    form : Bool
+    form = leb event-length (length es) && (leb (getD es 0 0) report-kind && ltb (getD es 1 0) number-limit)
 
-    go : (k : ℕ) → kind-check k xs es ≡ None → requests-check xs ≡ None
-    go zero e = then-none (room-check xs) (requests-check xs) (then-none (parts-check es) (then (room-check xs) (requests-check xs)) (then-none (number-check xs n) (then (parts-check es) (then (room-check xs) (requests-check xs))) e .1) .1) .1
-    go (suc zero) e = then-none (waits-check xs n) (requests-check xs) e .1
-    go (suc (suc k)) e = then-none (verdicts-check xs) (requests-check xs) (then-none (place-check xs n) (then (verdicts-check xs) (requests-check xs)) e .1) .1
+    es₀ : List Event
+    es₀ = l .reached .events
 
--- ONE EVENT over the numbers of a reachable queue
+    few : length (q .verdicts) < most-verdicts
+    few = subst (λ (p : Queue). length (p .verdicts) < most-verdicts) (sym (l .reached .is)) (few-verdicts t es₀ (small-depth (t .depth) (l .depth)))
+
+    landing : length (q .landed) + length (q .waiting) ≤ most-landed
+    landing = subst (λ (p : Queue). length (p .landed) + length (p .waiting) ≤ most-landed) (sym (l .reached .is)) (room-day t es₀ .0)
+
+    rejecting : length (q .rejected) + length (q .waiting) ≤ most-rejected
+    rejecting = subst (λ (p : Queue). length (p .rejected) + length (p .waiting) ≤ most-rejected) (sym (l .reached .is)) (room-day t es₀ .1)
+
+    front : Tests (front-check report-kind xs es) form
+    front =
+        tests-both (queue-checked t q behind xs (lent-fits t q l) landing rejecting s)
+        (tests-both (turned (tests-unless (benches-taken (getD xs benches-at 0)) Benches) (ap (λ (u : Config). benches-taken (u .benches)) (s .config-is) ∙ l .benches))
+        (tests-both (turned (tests-unless (depth-taken (getD xs depth-at 0)) Depth) (ap (λ (u : Config). depth-taken (u .depth)) (s .config-is) ∙ l .depth)) (tests-unless form refused.Event)))
+
+-- the reply is Done if the checks are passed
+done-is : (c : Check) (xs : List ℕ) (n : ℕ) (ys : List ℕ) → is-done (unless-refused c xs (Done n, ys) .0) ≡ passed c
+done-is None xs n ys = refl
+done-is (Some r) xs n ys = refl
+
 abbrev Stepped : Config → Queue → List ℕ → List ℕ → Reply × List ℕ → Type 0
 Stepped t q behind es r =
     ((is-done (r .0) ≡ true) × (accepts t q (event-in es) ≡ true) × (r .1 ≡ encode t (step t q (event-in es)) behind))
     ⊎ ((is-done (r .0) ≡ false) × (r .1 ≡ encode t q behind))
 
 -- it is stepped as on records, or nothing changes
-stepped-is : (t : Config) (q : Queue) (behind es : List ℕ) → Fits q → Stepped t q behind es (stepped (encode t q behind) es)
+stepped-is : (t : Config) (q : Queue) (behind es : List ℕ) → Lent t q → Stepped t q behind es (stepped (encode t q behind) es)
 unfolding stepped
-stepped-is t q behind es f = go (encode t q behind) refl (says-encode t q behind f) (refusal report-kind (encode t q behind) es) refl
+stepped-is t q behind es l = go (encode t q behind) refl (says-encode t q behind (lent-fits t q l)) (refusal report-kind (encode t q behind) es) refl
   where
     go : (xs : List ℕ) → xs ≡ encode t q behind → Says t q behind xs → (c : Check) → refusal report-kind xs es ≡ c →
         Stepped t q behind es (unless-refused c xs (stepped-to (config-in xs) (step (config-in xs) (decode xs) (event-in es)) (drop queue-length xs)))
     go xs n s None e = inl (
       refl,
-      accepts-kind t q behind xs es s (getD es 0 0) (then-none (front-check report-kind xs es) (kind-check (getD es 0 0) xs es) e .1),
+      both-left (accepts t q (event-in es)) (ltb (q .requested) number-limit) (both-right (well-formed es) (accepts t q (event-in es) && ltb (q .requested) number-limit) (sym (tests-event t q behind xs es l s .is) ∙ ap passed e)),
       ap₂ (λ (u : Config) (x : Queue × List ℕ). encode u (step u (x .0) (event-in es)) (x .1)) (s .config-is) (ap₂ (λ (p : Queue) (ys : List ℕ). (p, ys)) (s .decode-is) (s .behind-is)),
     )
     go xs n s (Some x) e = inr (refl, n)
 
--- it is taken exactly if it is well formed, taken on records, and requests can be counted
-abbrev Taken-if : Config → Queue → List ℕ → Bool
-Taken-if t q es = well-formed es && (accepts t q (event-in es) && ltb (q .requested) number-limit)
-
-abbrev form : List ℕ → Bool
-form es = leb event-length (length es) && (leb (getD es 0 0) report-kind && ltb (getD es 1 0) number-limit)
-
--- what is not refused meets the test
-checked-not : (t : Config) (q : Queue) (behind xs es : List ℕ) → Says t q behind xs → refusal report-kind xs es ≡ None → Taken-if t q es ≡ true
-checked-not t q behind xs es s e =
-    and-from (well-formed es) (accepts t q (event-in es) && ltb (q .requested) number-limit)
-    (and-from (form es) (parts-counted k es) (unless-none (form es) refused.Event (third .1)) (parts-counted-from xs es k (first .1)))
-    (and-from (accepts t q (event-in es)) (ltb (q .requested) number-limit) (accepts-kind t q behind xs es s k (first .1)) (ap (λ (x : ℕ). ltb x number-limit) (sym (s .requested-is)) ∙ requests-from xs es k (first .1)))
-  where
-    k : ℕ
-    k = getD es 0 0
-
-    benches : Check
-    benches = benches-check (getD xs benches-at 0)
-
-    depth : Check
-    depth = depth-check (getD xs depth-at 0)
-
-    first : (front-check report-kind xs es ≡ None) × (kind-check k xs es ≡ None)
-    first = then-none (front-check report-kind xs es) (kind-check k xs es) e
-
-    second : (benches ≡ None) × (then depth (event-check report-kind es) ≡ None)
-    second = then-none benches (then depth (event-check report-kind es)) (then-none (queue-check xs) (then benches (then depth (event-check report-kind es))) (first .0) .1)
-
-    third : (depth ≡ None) × (event-check report-kind es ≡ None)
-    third = then-none depth (event-check report-kind es) (second .1)
-
--- what meets the test is not refused
-checked : (t : Config) (q : Queue) (behind xs es : List ℕ) → Says t q behind xs → benches-check (t .benches) ≡ None → depth-check (t .depth) ≡ None → queue-check xs ≡ None → length (q .verdicts) < most-verdicts →
-    Taken-if t q es ≡ true → refusal report-kind xs es ≡ None
-checked t q behind xs es s b d c v e =
-    then-from (front-check report-kind xs es) (kind-check k xs es)
-    (then-from (queue-check xs) (then benches (then depth (event-check report-kind es))) c
-    (then-from benches (then depth (event-check report-kind es)) (ap (λ (u : Config). benches-check (u .benches)) (s .config-is) ∙ b)
-    (then-from depth (event-check report-kind es) (ap (λ (u : Config). depth-check (u .depth)) (s .config-is) ∙ d)
-    (unless-from (form es) refused.Event (both-left (form es) (parts-counted k es) formed)))))
-    (kind-checked t q behind xs es s v (both-right (accepts t q (event-in es)) (ltb (q .requested) number-limit) rest) k (both-right (form es) (parts-counted k es) formed)
-    (both-left (accepts t q (event-in es)) (ltb (q .requested) number-limit) rest))
-  where
-    k : ℕ
-    k = getD es 0 0
-
-    benches : Check
-    benches = benches-check (getD xs benches-at 0)
-
-    depth : Check
-    depth = depth-check (getD xs depth-at 0)
-
-    formed : well-formed es ≡ true
-    formed = both-left (well-formed es) (accepts t q (event-in es) && ltb (q .requested) number-limit) e
-
-    rest : (accepts t q (event-in es) && ltb (q .requested) number-limit) ≡ true
-    rest = both-right (well-formed es) (accepts t q (event-in es) && ltb (q .requested) number-limit) e
-
--- a check that refuses exactly if a test fails
-exactly : (c : Check) (b : Bool) (xs : List ℕ) (n : ℕ) (ys : List ℕ) → (c ≡ None → b ≡ true) → (b ≡ true → c ≡ None) → is-done (unless-refused c xs (Done n, ys) .0) ≡ b
-exactly None b xs n ys f g = sym (f refl)
-exactly (Some r) true xs n ys f g = absurd (true≢false (ap isSome (g refl)))
-exactly (Some r) false xs n ys f g = refl
-
 -- THE DAY: from any reachable queue the two days go on alike
-lent-from : (t : Config) (behind : List ℕ) → t .depth ≤ most-depth → t .benches ≤ most-benches → (ess : List (List ℕ)) (q : Queue) → Reached t q →
+lent-after : (t : Config) (q : Queue) (e : Event) → Lent t q → Lent t (after t q e)
+lent-after t q e l = record { reached = reached-after t q e (l .reached); benches = l .benches; depth = l .depth }
+
+lent-from : (t : Config) (behind : List ℕ) (ess : List (List ℕ)) (q : Queue) → Lent t q →
     All-accepted t q (taken-events (encode t q behind) ess) × (lent-day (encode t q behind) ess ≡ encode t (replayed t q (taken-events (encode t q behind) ess)) behind)
 unfolding lent-day taken-events replayed
-lent-from t behind d b [] q r = (tt, refl)
-lent-from t behind d b (es ∷ ess) q r = go (stepped-is t q behind es (subst Fits (sym (r .is)) (fits-day t (r .events) d b))) (lent-from t behind d b ess q r) (lent-from t behind d b ess (after t q e) (reached-after t q e r))
+lent-from t behind [] q l = (tt, refl)
+lent-from t behind (es ∷ ess) q l = go (stepped-is t q behind es l) (lent-from t behind ess q l) (lent-from t behind ess (after t q e) (lent-after t q e l))
   where
     e : Event
     e = event-in es
@@ -288,35 +189,50 @@ lent-from t behind d b (es ∷ ess) q r = go (stepped-is t q behind es (subst Fi
     Rest p = All-accepted t p (taken-events (encode t p behind) ess) × (lent-day (encode t p behind) ess ≡ encode t (replayed t p (taken-events (encode t p behind) ess)) behind)
 
     go : Stepped t q behind es now → Rest q → Rest (after t q e) → Goal (is-done (now .0)) (now .1)
-    go (inl k) same next = subst₂ Goal (sym (k .0)) (sym (k .2 ∙ ap (λ (p : Queue). encode t p behind) (sym (after-taken t q e (k .1))))) ((k .1, next .0), next .1)
-    go (inr k) same next = subst₂ Goal (sym (k .0)) (sym (k .1)) same
+    go (inl k) same further = subst₂ Goal (sym (k .0)) (sym (k .2 ∙ ap (λ (p : Queue). encode t p behind) (sym (after-taken t q e (k .1))))) ((k .1, further .0), further .1)
+    go (inr k) same further = subst₂ Goal (sym (k .0)) (sym (k .1)) same
 
--- what opening wrote, and which configs it takes
-opened-is : (slice : List ℕ) (b k : ℕ) → is-done (opened slice b k .0) ≡ true → (opened slice b k .1 ≡ encode (config b k) empty (drop queue-length slice)) × (benches-check b ≡ None) × (depth-check k ≡ None)
-opened-is slice b k e = go (then (length-check slice) (then (benches-check b) (depth-check k))) refl e
+-- opening writes an empty queue of a config that can be lent
+opened-is : (slice : List ℕ) (b k : ℕ) → is-done (opened slice b k .0) ≡ true →
+    (opened slice b k .1 ≡ encode (config b k) empty (drop queue-length slice)) × Lent (config b k) empty
+opened-is slice b k e = (
+  go (then (length-check slice) (then (benches-check b) (depth-check k))) e,
+  record {
+    reached = reached-empty (config b k);
+    benches = both-left (benches-taken b) (depth-taken k) taken;
+    depth = both-right (benches-taken b) (depth-taken k) taken;
+  },
+)
   where
     xs : List ℕ
     xs = encode (config b k) empty (drop queue-length slice)
 
-    go : (c : Check) → then (length-check slice) (then (benches-check b) (depth-check k)) ≡ c → is-done (unless-refused c slice (Done 0, xs) .0) ≡ true → (unless-refused c slice (Done 0, xs) .1 ≡ xs) × (benches-check b ≡ None) × (depth-check k ≡ None)
-    go None n h =
-        let both = then-none (benches-check b) (depth-check k) (then-none (length-check slice) (then (benches-check b) (depth-check k)) n .1) in
-        (refl, both .0, both .1)
-    go (Some r) n h = absurd (true≢false (sym h))
+    go : (c : Check) → is-done (unless-refused c slice (Done 0, xs) .0) ≡ true → unless-refused c slice (Done 0, xs) .1 ≡ xs
+    go None h = refl
+    go (Some r) h = absurd (true≢false (sym h))
 
--- configs that are taken are small enough
-few-benches : (b : ℕ) → benches-check b ≡ None → b ≤ most-benches
-few-benches b e = leb-true b most-benches (both-right (leb 1 b) (leb b most-benches) (unless-none (leb 1 b && leb b most-benches) Benches e))
+    long : Bool
+    long = leb queue-length (length slice)
 
-small-depth : (k : ℕ) → depth-check k ≡ None → k ≤ most-depth
-small-depth k e = leb-true k most-depth (both-right (leb 1 k) (leb k most-depth) (unless-none (leb 1 k && leb k most-depth) Depth e))
+    all : Tests (then (length-check slice) (then (benches-check b) (depth-check k))) (long && (benches-taken b && depth-taken k))
+    all = tests-both (tests-unless long (Malformed (length slice))) (tests-both (tests-unless (benches-taken b) Benches) (tests-unless (depth-taken k) Depth))
 
-pub lent-days : Lent-days
-lent-days slice b k ess e = (
-  day .0,
-  day .1,
-  ap decode (day .1) ∙ decode-encode t (replayed t empty es) behind (fits-day t es (small-depth k (start .2)) (few-benches b (start .1))) .0,
-)
+    taken : (benches-taken b && depth-taken k) ≡ true
+    taken = both-right long (benches-taken b && depth-taken k) (sym (all .is) ∙ sym (done-is (then (length-check slice) (then (benches-check b) (depth-check k))) slice 0 xs) ∙ e)
+
+-- the numbers of the day, and what they say
+record Lent-at (slice : List ℕ) (b k : ℕ) (ess : List (List ℕ)) (q : Queue) : Type 0 where
+  pub lent : Lent (config b k) q
+  pub accepted : All-accepted (config b k) empty (taken-events (opened slice b k .1) ess)
+  pub numbers : lent-day (opened slice b k .1) ess ≡ encode (config b k) q (drop queue-length slice)
+
+lent-at : (slice : List ℕ) (b k : ℕ) (ess : List (List ℕ)) → is-done (opened slice b k .0) ≡ true →
+    Lent-at slice b k ess (replayed (config b k) empty (taken-events (opened slice b k .1) ess))
+lent-at slice b k ess e = record {
+  lent = record { reached = record { events = taken-events (opened slice b k .1) ess; is = refl }; benches = start .1 .benches; depth = start .1 .depth };
+  accepted = day .0;
+  numbers = day .1;
+}
   where
     t : Config
     t = config b k
@@ -324,23 +240,25 @@ lent-days slice b k ess e = (
     behind : List ℕ
     behind = drop queue-length slice
 
-    start : (opened slice b k .1 ≡ encode t empty behind) × (benches-check b ≡ None) × (depth-check k ≡ None)
+    start : (opened slice b k .1 ≡ encode t empty behind) × Lent t empty
     start = opened-is slice b k e
 
-    es : List Event
-    es = taken-events (opened slice b k .1) ess
+    day : All-accepted t empty (taken-events (opened slice b k .1) ess) × (lent-day (opened slice b k .1) ess ≡ encode t (replayed t empty (taken-events (opened slice b k .1) ess)) behind)
+    day = subst (λ (xs : List ℕ). All-accepted t empty (taken-events xs ess) × (lent-day xs ess ≡ encode t (replayed t empty (taken-events xs ess)) behind)) (sym (start .0)) (lent-from t behind ess empty (start .1))
 
-    day : All-accepted t empty es × (lent-day (opened slice b k .1) ess ≡ encode t (replayed t empty es) behind)
-    day = subst (λ (xs : List ℕ). All-accepted t empty (taken-events xs ess) × (lent-day xs ess ≡ encode t (replayed t empty (taken-events xs ess)) behind)) (sym (start .0))
-        (lent-from t behind (small-depth k (start .2)) (few-benches b (start .1)) ess empty (reached-empty t))
+pub lent-days : Lent-days
+lent-days slice b k ess e =
+    let t = config b k in
+    let q = replayed t empty (taken-events (opened slice b k .1) ess) in
+    let d = lent-at slice b k ess e in
+    (d .accepted, d .numbers, ap decode (d .numbers) ∙ decode-encode t q (drop queue-length slice) (lent-fits t q (d .lent)) .0)
 
 -- so a reachable queue refuses only by the test
 pub lent-taken : Lent-taken
 unfolding stepped
-lent-taken slice b k ess e es = exactly (refusal report-kind xs es) (Taken-if t (decode xs) es) xs (length (next .running)) (encode (config-in xs) next (drop queue-length xs))
-    (λ h. ap (λ (p : Queue). Taken-if t p es) (says .decode-is) ∙ checked-not t q behind xs es says h)
-    (λ h. checked t q behind xs es says (start .1) (start .2) (queue-checked t q behind xs fits (fit .0) (fit .1) says) (few-verdicts t (taken-events (opened slice b k .1) ess) (small-depth k (start .2)))
-    (ap (λ (p : Queue). Taken-if t p es) (sym (says .decode-is)) ∙ h))
+lent-taken slice b k ess e es =
+    done-is (refusal report-kind xs es) xs (length (further .running)) (encode (config-in xs) further (drop queue-length xs))
+    ∙ tests-event t q behind xs es (d .lent) says .is ∙ ap (λ (p : Queue). Taken-if t p es) (sym (says .decode-is))
   where
     t : Config
     t = config b k
@@ -354,20 +272,14 @@ lent-taken slice b k ess e es = exactly (refusal report-kind xs es) (Taken-if t 
     q : Queue
     q = replayed t empty (taken-events (opened slice b k .1) ess)
 
-    next : Queue
-    next = step (config-in xs) (decode xs) (event-in es)
+    further : Queue
+    further = step (config-in xs) (decode xs) (event-in es)
 
-    start : (opened slice b k .1 ≡ encode t empty behind) × (benches-check b ≡ None) × (depth-check k ≡ None)
-    start = opened-is slice b k e
-
-    fits : Fits q
-    fits = fits-day t (taken-events (opened slice b k .1) ess) (small-depth k (start .2)) (few-benches b (start .1))
-
-    fit : (length (q .landed) + length (q .waiting) ≤ most-landed) × (length (q .rejected) + length (q .waiting) ≤ most-rejected)
-    fit = room-day t (taken-events (opened slice b k .1) ess)
+    d : Lent-at slice b k ess q
+    d = lent-at slice b k ess e
 
     says : Says t q behind xs
-    says = subst (Says t q behind) (sym (lent-days slice b k ess e .1)) (says-encode t q behind fits)
+    says = subst (Says t q behind) (sym (d .numbers)) (says-encode t q behind (lent-fits t q (d .lent)))
 
 -- a promise that holds of the day on records holds of what the numbers say
 pub lent-serial-equivalence : Lent-serial-equivalence

@@ -8,14 +8,11 @@ use native.Mathlib.Omega.{arith}
 use lib.ListN.{length}
 use Rattle.std.proofs.shelf.Tests.{or-from, or-cases}
 use Rattle.std.specs.shelf.Lists.{All}
+use Rattle.run.proofs.Compared.{same-run-true, same-run-refl}
 use Rattle.run.specs.Run.{Run, same-run}
 use Rattle.plan.specs.Plan.{among, kept}
 use Rattle.promises.specs.Day.{Different}
 use Rattle.promises.proofs.Basics.{clash, not-so, neither-left, neither-right, or-swap, length-place}
-use Rattle.promises.proofs.Pass.{same-run-is, same-run-refl}
-
-pub same-run-sym : (r s : Run) → same-run r s ≡ true → same-run s r ≡ true
-same-run-sym r s e = subst (λ (x : Run). same-run x r ≡ true) (same-run-is r s e) (same-run-refl r)
 
 -- where a run stands in a list made of others
 pub among-head : (r : Run) (rs : List Run) → among r (r ∷ rs) ≡ true
@@ -38,7 +35,7 @@ among-neither : (r : Run) (xs ys : List Run) → among r xs ≡ false → among 
 among-neither r xs ys e h = among-append r xs ys ∙ or-from (among r xs) (among r ys) e h
 
 pub among-one : (r s : Run) → among r (s ∷ []) ≡ true → r ≡ s
-among-one r s e = same-run-is r s (sym (or-false (same-run r s)) ∙ e)
+among-one r s e = same-run-true r s (sym (or-false (same-run r s)) ∙ e)
 
 pub among-place : (x : Run) (A : List Run) (r : Run) (B : List Run) → among x (A ++ r ∷ B) ≡ (same-run x r || among x (A ++ B))
 among-place x A r B = among-append x A (r ∷ B) ∙ or-swap (among x A) (same-run x r) (among x B) ∙ ap (_||_ (same-run x r)) (sym (among-append x A B))
@@ -57,9 +54,10 @@ pub among-kept : (test : Run → Bool) (r : Run) (rs : List Run) → among r (ke
 among-kept test r [] = sym (and-false (test r))
 among-kept test r (s ∷ rs) = go (among-kept test r rs) (same-run r s) refl (test s) refl
   where
-    go : among r (kept test rs) ≡ (test r && among r rs) → (b : Bool) → same-run r s ≡ b → (t : Bool) → test s ≡ t → among r (cond t (s ∷ kept test rs) (kept test rs)) ≡ (test r && (b || among r rs))
-    go ih true k true j = ap (λ (x : Bool). x || among r (kept test rs)) k ∙ sym (ap (λ (x : Bool). x && true) (ap test (same-run-is r s k) ∙ j))
-    go ih true k false j = ih ∙ ap (λ (x : Bool). x && among r rs) (ap test (same-run-is r s k) ∙ j) ∙ sym (ap (λ (x : Bool). x && true) (ap test (same-run-is r s k) ∙ j))
+    go : among r (kept test rs) ≡ (test r && among r rs) → (b : Bool) → same-run r s ≡ b → (t : Bool) → test s ≡ t →
+        among r (cond t (s ∷ kept test rs) (kept test rs)) ≡ (test r && (b || among r rs))
+    go ih true k true j = ap (λ (x : Bool). x || among r (kept test rs)) k ∙ sym (ap (λ (x : Bool). x && true) (ap test (same-run-true r s k) ∙ j))
+    go ih true k false j = ih ∙ ap (λ (x : Bool). x && among r rs) (ap test (same-run-true r s k) ∙ j) ∙ sym (ap (λ (x : Bool). x && true) (ap test (same-run-true r s k) ∙ j))
     go ih false k true j = ap (λ (x : Bool). x || among r (kept test rs)) k ∙ ih
     go ih false k false j = ih
 
@@ -102,7 +100,7 @@ split-at r [] e = absurd (true≢false (sym e))
 split-at r (s ∷ rs) e = go (split-at r rs) (same-run r s) refl e
   where
     go : (among r rs ≡ true → Split-at r rs) → (b : Bool) → same-run r s ≡ b → (b || among r rs) ≡ true → Split-at r (s ∷ rs)
-    go ih true k h = record { before = []; behind = rs; is = ap (λ (x : Run). x ∷ rs) (sym (same-run-is r s k)) }
+    go ih true k h = record { before = []; behind = rs; is = ap (λ (x : Run). x ∷ rs) (sym (same-run-true r s k)) }
     go ih false k h = let p = ih h in record { before = s ∷ p .before; behind = p .behind; is = ap (λ (xs : List Run). s ∷ xs) (p .is) }
 
 -- a list of different runs that all stand in another is no longer than it
@@ -115,7 +113,7 @@ pigeons (r ∷ rs) us n s = go (split-at r us (s r (among-head r rs))) (pigeons 
       arith,
       ap length (p .is) ∙ length-place (p .before) r (p .behind),
       ih (p .before ++ p .behind) (n .1) (λ x e. elim (or-cases (same-run x r) (among x (p .before ++ p .behind)) (sym (among-place x (p .before) r (p .behind)) ∙ ap (among x) (sym (p .is)) ∙ s x (among-right x (r ∷ []) rs e))) [
-        | inl k ↦ clash (ap (λ (y : Run). among y rs) (sym (same-run-is x r k)) ∙ e) (n .0)
+        | inl k ↦ clash (ap (λ (y : Run). among y rs) (sym (same-run-true x r k)) ∙ e) (n .0)
         | inr k ↦ k
       ]),
     )

@@ -14,7 +14,8 @@ abbrev pub Alike : List Change → List Change → Type 0
 Alike xs ys = (p : ℕ) → line p xs ≡ line p ys
 
 -- a change passes alike on lines that are the same on its parts
-passes-on-alike : (f : Bench) (c : Change) (xs ys : List Change) (ps : List ℕ) → ((p : ℕ) → has ps p ≡ true → line p xs ≡ line p ys) → passes-on f xs c ps ≡ passes-on f ys c ps
+passes-on-alike : (f : Bench) (c : Change) (xs ys : List Change) (ps : List ℕ) → ((p : ℕ) → has ps p ≡ true → line p xs ≡ line p ys) →
+    passes-on f xs c ps ≡ passes-on f ys c ps
 unfolding passes-on
 passes-on-alike f c xs ys [] e = refl
 passes-on-alike f c xs ys (p ∷ ps) e =

@@ -9,17 +9,17 @@ use lib.ListN.{length, getD, take}
 use Rattle.std.proofs.shelf.Tests.{eqb-true}
 use Rattle.std.proofs.shelf.Elements.{all-push}
 use Rattle.change.proofs.Changes.{line-append}
+use Rattle.run.proofs.Compared.{same-run-refl}
 use Rattle.change.specs.Change.{Change, has, line}
 use Rattle.run.specs.Run.{Run, Verdict, same-run}
+use Rattle.run.specs.State.{Config, Queue, empty}
 use Rattle.serial.specs.Serial.{Bench, passes-on, passes}
 use Rattle.plan.specs.Plan.{among, useful-in, planned}
-use Rattle.run.specs.State.{Config, Queue, empty}
 use Rattle.queue.specs.Queue.{Event, submit, withdraw, report, no-run, recorded, decided, step, replayed}
-use Rattle.queue.specs.WorkedDay.{run}
 use Rattle.promises.specs.Day.{blank, reported-by, logged, said-good}
 use Rattle.promises.specs.Promises.{Every-state-tested}
 use Rattle.promises.proofs.Basics.{both-left, both-right, line-with, all-kept}
-use Rattle.promises.proofs.Pass.{Vouched, same-run-refl, says, good-passes, pass-all}
+use Rattle.promises.proofs.Pass.{Vouched, says, good-passes, pass-all}
 use Rattle.promises.proofs.Days.{log-keeps}
 
 -- each of the list passed on top of those before it
@@ -42,7 +42,8 @@ passes-at f xs c (q ∷ ps) e p h = go (passes-at f xs c ps (both-right (f q (li
     go ih false k j = ih j
 
 -- so each prefix of the main line is good on the parts of its last change
-grown-at : (f : Bench) (cs pre : List Change) → Grown f pre cs → (k p : ℕ) (c : Change) → k < length cs → has (getD cs k c .parts) p ≡ true → f p (line p (pre ++ take (suc k) cs)) ≡ true
+grown-at : (f : Bench) (cs pre : List Change) → Grown f pre cs → (k p : ℕ) (c : Change) → k < length cs → has (getD cs k c .parts) p ≡ true →
+    f p (line p (pre ++ take (suc k) cs)) ≡ true
 unfolding passes
 grown-at f [] pre g k p c l h = absurd (omega arith)
 grown-at f (d ∷ cs) pre g zero p c l h =

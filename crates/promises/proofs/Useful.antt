@@ -12,14 +12,14 @@ use Rattle.std.specs.shelf.Lists.{All}
 use Rattle.std.specs.Options.{isSome}
 use Rattle.std.specs.declared.option.Option.the-variants.{Some}
 use Rattle.change.proofs.Changes.{line-append, length-line-le}
+use Rattle.run.proofs.Compared.{same-run-true}
 use Rattle.change.specs.Change.{part-limit, most-parts, Change, has, line, numbered, fault-from, fault}
 use Rattle.run.specs.Run.{Run, same-run, run-on, runs-on}
 use Rattle.plan.specs.Plan.{useful, among}
 use Rattle.queue.specs.Queue.{proper}
-use Rattle.promises.specs.Day.{Different, parts-in, Begins}
+use Rattle.promises.specs.Day.{Different, parts-in, Ahead-by}
 use Rattle.promises.proofs.Basics.{clash, not-so, neither-left, neither-right, both-left, both-right, Off, off-sym, line-off, has-head, has-tail}
 use Rattle.promises.proofs.Serial.{Alike, alike-push, off-swap, Apart}
-use Rattle.promises.proofs.Pass.{same-run-is}
 use Rattle.promises.proofs.Runs.{among-head, among-left, among-right, among-cases, Sub}
 
 -- lists of numbers without repeats
@@ -53,7 +53,8 @@ no-fault seen i (p ∷ ps) e = go (no-fault (p ∷ seen) (suc i) ps) (ltb p part
 pub proper-is : (c : Change) → proper c ≡ true → Proper c
 proper-is c e = go (leb 1 (length (c .parts)) && leb (length (c .parts)) most-parts) refl (not-true (isSome (fault c)) e)
   where
-    go : (b : Bool) → (leb 1 (length (c .parts)) && leb (length (c .parts)) most-parts) ≡ b → isSome (cond b (fault-from [] 0 (c .parts)) (Some most-parts)) ≡ false → Proper c
+    go : (b : Bool) → (leb 1 (length (c .parts)) && leb (length (c .parts)) most-parts) ≡ b → isSome (cond b (fault-from [] 0 (c .parts)) (Some most-parts)) ≡ false →
+        Proper c
     go true k h = record {
       some = leb-true 1 (length (c .parts)) (both-left (leb 1 (length (c .parts))) (leb (length (c .parts)) most-parts) k);
       few = leb-true (length (c .parts)) most-parts (both-right (leb 1 (length (c .parts))) (leb (length (c .parts)) most-parts) k);
@@ -83,7 +84,8 @@ pub among-runs : (L : List Change) (n : ℕ) (ps : List ℕ) (p : ℕ) → has p
 among-runs L n [] p h = absurd (true≢false (sym h))
 among-runs L n (q ∷ ps) p h = go (among-runs L n ps p) (eqb q p) refl h
   where
-    go : (has ps p ≡ true → among (run-on L n p) (runs-on L n ps) ≡ true) → (b : Bool) → eqb q p ≡ b → (b || has ps p) ≡ true → among (run-on L n p) (run-on L n q ∷ runs-on L n ps) ≡ true
+    go : (has ps p ≡ true → among (run-on L n p) (runs-on L n ps) ≡ true) → (b : Bool) → eqb q p ≡ b → (b || has ps p) ≡ true →
+        among (run-on L n p) (run-on L n q ∷ runs-on L n ps) ≡ true
     go ih true k j = subst (λ (x : ℕ). among (run-on L n x) (run-on L n q ∷ runs-on L n ps) ≡ true) (eqb-true q p k) (among-head (run-on L n q) (runs-on L n ps))
     go ih false k j = among-right (run-on L n p) (run-on L n q ∷ []) (runs-on L n ps) (ih j)
 
@@ -107,7 +109,8 @@ useful-more (suc n) (w ∷ ws) vs xs r e = elim (among-cases r (runs-on xs (w .n
 ]
 
 -- a change lands that shares no part with those that wait before it: what was useful is one of its runs or still useful
-pub useful-land : (n : ℕ) (W₁ : List Change) (c : Change) (W₂ xs ys : List Change) → Apart c W₁ → Alike ys (xs ++ c ∷ []) → (r : Run) → among r (useful n xs (W₁ ++ c ∷ W₂)) ≡ true →
+pub useful-land : (n : ℕ) (W₁ : List Change) (c : Change) (W₂ xs ys : List Change) → Apart c W₁ → Alike ys (xs ++ c ∷ []) → (r : Run) →
+    among r (useful n xs (W₁ ++ c ∷ W₂)) ≡ true →
     (among r (runs-on xs (c .number) (c .parts)) ≡ true) ⊎ (among r (useful n ys (W₁ ++ W₂)) ≡ true)
 unfolding useful
 useful-land zero W₁ c W₂ xs ys a e r h = absurd (true≢false (sym h))
@@ -142,7 +145,7 @@ runs-last b n [] r e = absurd (true≢false (sym e))
 runs-last b n (p ∷ ps) r e = go (runs-last b n ps r) (same-run r (run-on b n p)) refl e
   where
     go : (among r (runs-on b n ps) ≡ true → n ≡ last r) → (t : Bool) → same-run r (run-on b n p) ≡ t → (t || among r (runs-on b n ps)) ≡ true → n ≡ last r
-    go ih true j h = sym (ap last (same-run-is r (run-on b n p) j) ∙ last-push 0 (line p b) n)
+    go ih true j h = sym (ap last (same-run-true r (run-on b n p) j) ∙ last-push 0 (line p b) n)
     go ih false j h = ih h
 
 pub useful-last : (n : ℕ) (cs b : List Change) (r : Run) → among r (useful n b cs) ≡ true → numbered (last r) cs ≡ true
@@ -159,8 +162,9 @@ runs-part : (b : List Change) (n : ℕ) (ps : List ℕ) (r : Run) → among r (r
 runs-part b n [] r e = absurd (true≢false (sym e))
 runs-part b n (p ∷ ps) r e = go (runs-part b n ps r) (same-run r (run-on b n p)) refl e
   where
-    go : (among r (runs-on b n ps) ≡ true → has ps (r .part) ≡ true) → (t : Bool) → same-run r (run-on b n p) ≡ t → (t || among r (runs-on b n ps)) ≡ true → (eqb p (r .part) || has ps (r .part)) ≡ true
-    go ih true j h = ap (λ (t : Bool). t || has ps (r .part)) (eq-eqb p (r .part) (sym (ap (λ (s : Run). s .part) (same-run-is r (run-on b n p) j))))
+    go : (among r (runs-on b n ps) ≡ true → has ps (r .part) ≡ true) → (t : Bool) → same-run r (run-on b n p) ≡ t → (t || among r (runs-on b n ps)) ≡ true →
+        (eqb p (r .part) || has ps (r .part)) ≡ true
+    go ih true j h = ap (λ (t : Bool). t || has ps (r .part)) (eq-eqb p (r .part) (sym (ap (λ (s : Run). s .part) (same-run-true r (run-on b n p) j))))
     go ih false j h = ap (_||_ (eqb p (r .part))) (ih h) ∙ or-true (eqb p (r .part))
 
 -- a change's runs are different ones, since its parts are
@@ -183,22 +187,23 @@ useful-parts (suc n) [] xs = omega arith
 useful-parts (suc n) (w ∷ ws) xs = omega (arith, length-append (runs-on xs (w .number) (w .parts)) (useful n (xs ++ w ∷ []) ws), length-runs-on xs (w .number) (w .parts), useful-parts n ws (xs ++ w ∷ []))
 
 -- a useful run is its part's whole landed line, and then no more changes than are looked at
-run-begins : (L : List Change) (k : ℕ) (pre : List Change) (n p : ℕ) → length pre < k → Begins L k (run-on (L ++ pre) n p)
+run-begins : (L : List Change) (k : ℕ) (pre : List Change) (n p : ℕ) → length pre < k → Ahead-by L k (run-on (L ++ pre) n p)
 run-begins L k pre n p l = record {
   following = line p pre ++ n ∷ [];
   is = ap (λ (w : List ℕ). w ++ n ∷ []) (line-append p L pre) ∙ append-assoc (line p L) (line p pre) (n ∷ []);
   few = omega (arith, length-append (line p pre) (n ∷ []), length-line-le p pre);
 }
 
-runs-begin : (L : List Change) (k : ℕ) (pre : List Change) (n : ℕ) (ps : List ℕ) → length pre < k → (r : Run) → among r (runs-on (L ++ pre) n ps) ≡ true → Begins L k r
+runs-begin : (L : List Change) (k : ℕ) (pre : List Change) (n : ℕ) (ps : List ℕ) → length pre < k → (r : Run) → among r (runs-on (L ++ pre) n ps) ≡ true → Ahead-by L k r
 runs-begin L k pre n [] l r e = absurd (true≢false (sym e))
 runs-begin L k pre n (p ∷ ps) l r e = go (runs-begin L k pre n ps l r) (same-run r (run-on (L ++ pre) n p)) refl e
   where
-    go : (among r (runs-on (L ++ pre) n ps) ≡ true → Begins L k r) → (b : Bool) → same-run r (run-on (L ++ pre) n p) ≡ b → (b || among r (runs-on (L ++ pre) n ps)) ≡ true → Begins L k r
-    go ih true j h = subst (Begins L k) (sym (same-run-is r (run-on (L ++ pre) n p) j)) (run-begins L k pre n p l)
+    go : (among r (runs-on (L ++ pre) n ps) ≡ true → Ahead-by L k r) → (b : Bool) → same-run r (run-on (L ++ pre) n p) ≡ b →
+        (b || among r (runs-on (L ++ pre) n ps)) ≡ true → Ahead-by L k r
+    go ih true j h = subst (Ahead-by L k) (sym (same-run-true r (run-on (L ++ pre) n p) j)) (run-begins L k pre n p l)
     go ih false j h = ih h
 
-useful-begin-from : (L : List Change) (k n : ℕ) (cs pre : List Change) → length pre + n ≤ k → (r : Run) → among r (useful n (L ++ pre) cs) ≡ true → Begins L k r
+useful-begin-from : (L : List Change) (k n : ℕ) (cs pre : List Change) → length pre + n ≤ k → (r : Run) → among r (useful n (L ++ pre) cs) ≡ true → Ahead-by L k r
 unfolding useful
 useful-begin-from L k zero cs pre l r e = absurd (true≢false (sym e))
 useful-begin-from L k (suc n) [] pre l r e = absurd (true≢false (sym e))
@@ -207,5 +212,5 @@ useful-begin-from L k (suc n) (c ∷ cs) pre l r e = elim (among-cases r (runs-o
   | inr j ↦ useful-begin-from L k n cs (pre ++ c ∷ []) (omega (arith, length-append pre (c ∷ []))) r (ap (λ (b : List Change). among r (useful n b cs)) (sym (append-assoc L pre (c ∷ []))) ∙ j)
 ]
 
-pub useful-begin : (n : ℕ) (L W : List Change) (r : Run) → among r (useful n L W) ≡ true → Begins L n r
+pub useful-begin : (n : ℕ) (L W : List Change) (r : Run) → among r (useful n L W) ≡ true → Ahead-by L n r
 useful-begin n L W r e = useful-begin-from L n n W [] (omega arith) r (ap (λ (b : List Change). among r (useful n b W)) (append-nil L) ∙ e)

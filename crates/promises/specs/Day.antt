@@ -7,11 +7,10 @@ use lib.ListN.{length, getD}
 use Rattle.std.specs.shelf.Lists.{All}
 use Rattle.change.specs.Change.{most-parts, Change, line, numbered, dropped}
 use Rattle.run.specs.Run.{Run, Verdict, same-run}
+use Rattle.run.specs.State.{Config, Queue, empty}
 use Rattle.serial.specs.Serial.{Bench}
 use Rattle.plan.specs.Plan.{among, kept, useful-in}
-use Rattle.run.specs.State.{Config, Queue, empty}
 use Rattle.queue.specs.Queue.{Event, submit, withdraw, report, accepts, no-run, step, after}
-use Rattle.queue.specs.WorkedDay.{run}
 
 -- what a witness writes down of the events that are taken
 pub record Log : Type 0 where
@@ -98,7 +97,7 @@ parts-in [] = 0
 parts-in (c ∷ cs) = length (c .parts) + parts-in cs
 
 -- the run is its part's whole landed line, and then at most so many changes
-pub record Begins (landed : List Change) (most : ℕ) (r : Run) : Type 0 where
+pub record Ahead-by (landed : List Change) (most : ℕ) (r : Run) : Type 0 where
   pub following : List ℕ
   pub is : r .changes ≡ line (r .part) landed ++ following
   pub few : length following ≤ most

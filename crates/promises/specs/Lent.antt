@@ -8,12 +8,12 @@ use lib.ListN.{length, getD, drop}
 use Rattle.queue.specs.declared.reply.Reply.{Reply}
 use Rattle.queue.specs.declared.reply.Reply.the-variants.{Done, Refused}
 use Rattle.change.specs.Change.{most-parts}
-use Rattle.serial.specs.Serial.{Bench}
 use Rattle.run.specs.Layout.{number-limit, queue-length, event-length}
 use Rattle.run.specs.State.{Config, Queue, empty}
+use Rattle.run.specs.Numbers.{decode, encode}
+use Rattle.serial.specs.Serial.{Bench}
 use Rattle.queue.specs.Queue.{Event, accepts, after, replayed}
 use Rattle.queue.specs.Events.{event-in}
-use Rattle.run.specs.Numbers.{decode, encode}
 use Rattle.queue.specs.Refusals.{report-kind}
 use Rattle.queue.specs.Entry.{config, opened, stepped}
 use Rattle.promises.specs.Day.{logged, Truthful}
@@ -52,11 +52,12 @@ Lent-days =
     × (lent-day xs ess ≡ encode t (replayed t empty es) (drop queue-length slice))
     × (decode (lent-day xs ess) ≡ replayed t empty es)
 
--- eleven numbers at least, of a known kind, with a number that is small enough, and for a submission with no more parts than a record has room for
+-- a submission counts no more parts than a record has room for
 abbrev pub parts-counted : ℕ → List ℕ → Bool
 parts-counted zero es = leb (getD es 2 0) most-parts
 parts-counted (suc kind) es = true
 
+-- at least eleven numbers, of a known kind, whose second is small enough
 abbrev pub well-formed : List ℕ → Bool
 well-formed es =
     (leb event-length (length es) && (leb (getD es 0 0) report-kind && ltb (getD es 1 0) number-limit)) && parts-counted (getD es 0 0) es

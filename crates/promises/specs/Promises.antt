@@ -1,6 +1,6 @@
 -- What every day comes to, for every config and every list of events, those that are not taken included. Each statement's proof stands behind the function of its name.
 use mathlib.Core.Path.{_≡_}
-use mathlib.Core.Bool.{true, false}
+use mathlib.Core.Bool.{Bool, true, false}
 use mathlib.Core.List.{List, [], _∷_, _++_}
 use Prim.Native.Nat.{ℕ, suc, _+_, _*_, _≤_, _<_}
 use lib.ListN.{length, getD, take}
@@ -8,14 +8,14 @@ use Rattle.std.specs.shelf.Lists.{All}
 use Rattle.run.specs.declared.known.Known.the-variants.{Nothing}
 use Rattle.change.specs.Change.{most-parts, Change, has, line}
 use Rattle.run.specs.Run.{Verdict, heard, run-on, runs-on}
+use Rattle.run.specs.Layout.{most-landed, most-waiting, most-rejected, most-verdicts, most-benches, most-depth}
+use Rattle.run.specs.State.{Config, Queue, empty}
+use Rattle.run.specs.Numbers.{Fits}
 use Rattle.serial.specs.Serial.{Bench, serial-landed, serial-rejected}
 use Rattle.decide.specs.Decide.{any-bad, shares-any}
 use Rattle.plan.specs.Plan.{among, useful-in}
-use Rattle.run.specs.Layout.{most-landed, most-waiting, most-rejected, most-verdicts, most-benches, most-depth}
-use Rattle.run.specs.State.{Config, Queue, empty}
-use Rattle.queue.specs.Queue.{Event, accepts, after, replayed}
-use Rattle.run.specs.Numbers.{Fits}
-use Rattle.promises.specs.Day.{Log, logged, Truthful, said-good, not-waiting, Same-decisions, held, Different, parts-in, Begins, measure, Not-submit, All-taken}
+use Rattle.queue.specs.Queue.{Event, report, accepts, after, replayed}
+use Rattle.promises.specs.Day.{Log, logged, Truthful, said-good, not-waiting, Same-decisions, held, Different, parts-in, Ahead-by, measure, Not-submit, All-taken}
 
 -- THE MAIN PROMISE. If every report that is taken is what the bench says, then the decisions are those of serial testing: take the changes that were
 -- submitted and not withdrawn, in the order of their arrival, less those that still wait, and test them one at a time. On every part the same changes
@@ -113,15 +113,16 @@ Verdicts-fit =
     (t : Config) (es : List Event) →
     let q = replayed t empty es in
     (length (q .verdicts) + length (q .running) ≤ most-parts * t .depth)
-    × All (Begins (q .landed) (t .depth)) (held q)
+    × All (Ahead-by (q .landed) (t .depth)) (held q)
     × (length (q .landed) ≤ most-landed) × (length (q .waiting) ≤ most-waiting) × (length (q .rejected) ≤ most-rejected)
     × (t .depth ≤ most-depth → (length (q .verdicts) < most-verdicts) × (t .benches ≤ most-benches → Fits q))
 
--- Every report that is taken, and every withdrawal, makes a measure fall. So no more events can be taken than the measure says unless a change is submitted,
--- and once so many were taken nobody waits. That there is a report to take while a change waits is Never-idle.
+-- Every report that is taken, and every withdrawal, makes a measure fall. So unless a change is submitted no more events can be taken than the measure says, and
+-- once so many were taken nobody waits; and while a change waits, a report can be taken.
 abbrev pub Progress : Type 0
 Progress =
     (t : Config) (es : List Event) →
     let q = replayed t empty es in
     ((e : Event) → Not-submit e → accepts t q e ≡ true → measure t (after t q e) < measure t q)
     × ((fs : List Event) → All-taken t q fs → (length fs ≤ measure t q) × (measure t q ≤ length fs → replayed t q fs .waiting ≡ []))
+    × (0 < t .benches → 0 < t .depth → 0 < length (q .waiting) → (good : Bool) → accepts t q (report 0 good) ≡ true)

@@ -10,10 +10,10 @@ use Rattle.decide.specs.declared.decision.Decision.{Decision}
 use Rattle.decide.specs.declared.decision.Decision.the-variants.{Wait, Land, Reject}
 use Rattle.change.specs.Change.{Change, has, line, numbered}
 use Rattle.run.specs.Run.{Run, Verdict, same-list, runs-on}
+use Rattle.run.specs.State.{Config, Queue, empty}
 use Rattle.serial.specs.Serial.{Bench, serial-landed}
 use Rattle.decide.specs.Decide.{any-bad, all-good, decision-by, shares-any, decision, by-decision, Passed}
 use Rattle.plan.specs.Plan.{useful, among, kept, still-running, request, useful-in, with-runs}
-use Rattle.run.specs.State.{Config, Queue, empty}
 use Rattle.queue.specs.Queue.{Event, submit, report, accepts, recorded, with-passed, step}
 use Rattle.queue.specs.WorkedDay.{change, run}
 use Rattle.promises.specs.Day.{arrivals-with, reported-by, Truthful, said-good, not-waiting, held}
@@ -151,7 +151,7 @@ past-others = record {
 abbrev pub first-only : Rules
 first-only = record { decides = decision; looks = useful; keeps = own .keeps; stays = λ landed waiting r. among r (useful 1 landed waiting) }
 
--- change 1 touches parts 0 and 1, changes 2 and 3 touch part 1; two reports, and then a third
+-- change 1 touches parts 0 and 1, changes 2 and 3 touch part 1; with four benches 0:1, 1:1, 1:1+2 and 1:1+2+3 run, in this order
 abbrev pub three-submitted : List Event
 three-submitted = submit (change 1 (0 ∷ 1 ∷ [])) ∷ submit (change 2 (1 ∷ [])) ∷ submit (change 3 (1 ∷ [])) ∷ []
 

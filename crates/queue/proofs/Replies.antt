@@ -28,3 +28,7 @@ stops {A} {c} {r} {q} xs t e f g =
 -- no check refuses
 pub goes-on : {k : Check} (xs : List ℕ) (y t : Reply × List ℕ) → None ≡ k → y ≡ t → y ≡ unless-refused k xs t
 goes-on xs y t e f = f ∙ ap (λ (x : Check). unless-refused x xs t) e
+
+-- the first of two checks does not refuse: what the second makes of it
+pub passes : {k : Check} (d : Check) (xs : List ℕ) (y t : Reply × List ℕ) → None ≡ k → y ≡ unless-refused d xs t → y ≡ unless-refused (then k d) xs t
+passes d xs y t e f = f ∙ ap (λ (x : Check). unless-refused (then x d) xs t) e

@@ -7,13 +7,12 @@ use Rattle.std.specs.declared.option.Option.{Option}
 use Rattle.std.specs.declared.option.Option.the-variants.{Some, None}
 use Rattle.std.specs.declared.result.Result.{Result}
 use Rattle.std.specs.declared.result.Result.the-variants.{Ok, Err}
-use Rattle.change.specs.Change.{Change, dropped}
-use Rattle.run.specs.Layout.{running-count, queue-length}
+use Rattle.run.specs.Layout.{queue-length}
 use Rattle.run.specs.State.{Config, Queue, empty}
-use Rattle.queue.specs.Queue.{Event, submit, withdraw, report, join, step}
-use Rattle.run.specs.Numbers.{Sections, sections, whole, config-in, landed-in, waiting-in, rejected-in, with-changes, decode, encode}
+use Rattle.queue.specs.Queue.{step}
+use Rattle.run.specs.Numbers.{config-in, decode, encode}
 use Rattle.queue.specs.Events.{event-by, event-in}
-use Rattle.queue.specs.Refusals.{Check, then, length-check, benches-check, depth-check, front-check, kind-check, refusal, report-kind, withdraw-kind}
+use Rattle.queue.specs.Refusals.{Check, then, length-check, benches-check, depth-check, kind-check, refusal, report-kind}
 use Rattle.queue.specs.declared.reply.Refusal.{Refusal}
 use Rattle.queue.specs.declared.reply.Reply.{Reply}
 use Rattle.queue.specs.declared.reply.Reply.the-variants.{Done, Refused}
@@ -44,22 +43,7 @@ unfoldable pub stepped : List ℕ → List ℕ → Reply × List ℕ
 stepped xs es =
     unless-refused (refusal report-kind xs es) xs (stepped-to (config-in xs) (step (config-in xs) (decode xs) (event-in es)) (drop queue-length xs))
 
--- those that wait once an event was recorded
-abbrev pub waiting-after : Event → List Change → List Change
-waiting-after (submit c) ws = join c ws
-waiting-after (withdraw n) ws = dropped n ws
-waiting-after (report i g) ws = ws
-
--- the numbers once a submission or a withdrawal was recorded
-abbrev pub recorded-sections : List ℕ → List Change → Sections
-recorded-sections xs ws = with-changes xs (landed-in xs) ws (rejected-in xs)
-
--- an event of this kind that is taken
-abbrev pub recorded-kind : ℕ → List ℕ → List ℕ → Reply × List ℕ
-recorded-kind k xs es =
-    unless-refused (kind-check k xs es) xs
-    (Done (getD xs running-count 0), whole (recorded-sections xs (waiting-after (event-by k (drop 1 es)) (waiting-in xs))))
-
--- what the entry does so far: the first part of the step, for submissions and withdrawals; a report is of no known kind
-abbrev pub recorded-by : List ℕ → List ℕ → Reply × List ℕ
-recorded-by xs es = unless-refused (front-check withdraw-kind xs es) xs (recorded-kind (getD es 0 0) xs es)
+-- the same, where the event is of this kind and well formed
+abbrev pub stepped-kind : ℕ → List ℕ → List ℕ → Reply × List ℕ
+stepped-kind k xs es =
+    unless-refused (kind-check k xs es) xs (stepped-to (config-in xs) (step (config-in xs) (decode xs) (event-by k (drop 1 es))) (drop queue-length xs))

@@ -3,9 +3,10 @@ use mathlib.Core.Path.{_≡_}
 use mathlib.Core.List.{List}
 use Prim.Native.Nat.{ℕ, _+_, _≤_, _<_}
 use lib.ListN.{getD, drop}
-use Rattle.run.specs.Layout.{most-landed, most-waiting, most-rejected, landed-count, waiting-count, rejected-count, verdicts-count, running-count, queue-length}
+use Rattle.run.specs.Layout.{most-benches, most-depth, benches-at, depth-at, most-landed, most-waiting, most-rejected, landed-count, waiting-count, rejected-count, verdicts-count, running-count, queue-length}
 use Rattle.run.specs.State.{Queue}
-use Rattle.run.specs.Numbers.{config-in, decode, Runs-fit, Settled}
+use Rattle.change.specs.Records.{Tallies}
+use Rattle.run.specs.Numbers.{config-in, decode, landed-in, Runs-fit, Settled}
 use Rattle.queue.specs.declared.counts.Counts.{Counts}
 use Rattle.queue.specs.declared.kind.Kind.{Kind}
 use Rattle.queue.specs.declared.kind.Kind.the-variants.{Submit, Withdraw, Report}
@@ -43,3 +44,13 @@ pub record Says (xs : List ℕ) (q : Queue) (ys : List ℕ) : Type 0 where
   pub state : decode ys ≡ q
   pub config : config-in ys ≡ config-in xs
   pub behind : drop queue-length ys ≡ drop queue-length xs
+
+-- the slice is a queue with these counts, and the table says how many landed changes each part has
+pub record Found (xs : List ℕ) (n : Counts) (tally : List ℕ) : Type 0 where
+  pub sound : Sound xs n
+  pub tallied : Tallies tally (landed-in xs)
+
+-- its benches and its depth are not too many
+pub record Configured (xs : List ℕ) : Type 0 where
+  pub benches : getD xs benches-at 0 ≤ most-benches
+  pub depth : getD xs depth-at 0 ≤ most-depth

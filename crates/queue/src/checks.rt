@@ -7,7 +7,7 @@ ghost use Rattle.change.specs.Records.{Tallies, change-in, change-of, change-wi
 ghost use Rattle.run.specs.Limits.{most-following};
 ghost use Rattle.std.specs.Options.{mapped};
 ghost use Rattle.queue.specs.Stages.{Counted, Roomy, kind-number};
-ghost use Rattle.run.specs.Layout.{event-length, landed-at, most-landed, most-rejected, most-verdicts, queue-length, requested-at};
+ghost use Rattle.run.specs.Layout.{event-length, landed-at, most-landed, most-rejected, most-verdicts, number-limit, queue-length, requested-at};
 ghost use Rattle.run.specs.Numbers.{Runs-fit, landed-in, waiting-in};
 ghost use Rattle.queue.specs.Refusals.{Hands, benches-check, check-of, count-check, counts-check, depth-check, event-check, length-check, number-check, over, overlong, parts-check, records-check, requests-check, room-check, runs-check, sums-check, verdicts-check, waits-check, place-check, report-kind};
 ghost use Rattle.queue.specs.declared.reply.Refusal.the-variants.{Malformed};
@@ -329,7 +329,7 @@ pub fn check_verdicts(queue: &[u64], counts: Counts) -> Result<usize, Refusal>
 pub fn check_requests(queue: &[u64]) -> Result<u64, Refusal>
     requires { ⌜ queue-length ≤ length (now queue) ⌝ }
     ensures says { λ r. ⌜ check-of r ≡ requests-check (now (queue .entry)) ⌝ }
-    ensures hands { λ r. ⌜ Hands r (λ n. n ≡ getD (now (queue .entry)) requested-at 0) ⌝ }
+    ensures hands { λ r. ⌜ Hands r (λ n. (n ≡ getD (now (queue .entry)) requested-at 0) × (n < number-limit)) ⌝ }
 {
     let requested = queue[REQUESTED_AT];
     if requested >= NUMBER_LIMIT {

@@ -7,7 +7,6 @@ use run::QUEUE_LENGTH;
 use std::env;
 use std::fmt;
 use std::fs;
-use std::io;
 use std::io::Read;
 
 const HELP: &str = "Usage: replay [FILE]

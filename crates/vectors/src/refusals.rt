@@ -49,11 +49,15 @@ const WITHDRAW_2: [u64; 11] = [1, 2, 0, 0, 0, 0, 0, 0, 0, 0, 0];
 
 const WITHDRAW_LANDED: [u64; 11] = [1, 1, 0, 0, 0, 0, 0, 0, 0, 0, 0];
 
+const REPORT_0: [u64; 11] = [2, 0, 1, 0, 0, 0, 0, 0, 0, 0, 0];
+
+const REPORT_1: [u64; 11] = [2, 1, 1, 0, 0, 0, 0, 0, 0, 0, 0];
+
 const KIND_3: [u64; 11] = [3, 9, 2, 1, 2, 0, 0, 0, 0, 0, 0];
 
 const NUMBER_TOO_LARGE: [u64; 11] = [0, 0x1_0000_0000, 0, 0, 0, 0, 0, 0, 0, 0, 0];
 
-const CASES: [Case; 41] = [
+const CASES: [Case; 44] = [
     // 1: too short, before anything else
     Case(
         QUEUE_LENGTH - 1,
@@ -213,7 +217,26 @@ const CASES: [Case; 41] = [
         GOOD,
         (9, 2),
     ),
-    // 10: requests
+    // 8: no run is running at the place, before room for a verdict
+    Case(
+        WHOLE,
+        [(VERDICTS_COUNT, 128), (REQUESTED_AT, 0x1_0000_0000)],
+        REPORT_1,
+        (8, 1),
+    ),
+    // 10: room for a verdict, before the count of requests; then that count
+    Case(
+        WHOLE,
+        [(VERDICTS_COUNT, 128), (REQUESTED_AT, 0x1_0000_0000)],
+        REPORT_0,
+        (10, 0),
+    ),
+    Case(
+        WHOLE,
+        [(REQUESTED_AT, 0x1_0000_0000), SOUND],
+        REPORT_0,
+        (10, 1),
+    ),
     Case(WHOLE, [(REQUESTED_AT, 0x1_0000_0000), SOUND], GOOD, (10, 1)),
     Case(
         WHOLE,

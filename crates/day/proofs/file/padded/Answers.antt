@@ -1,8 +1,6 @@
-use mathlib.Core.Path.{_≡_, ap, _∙_}
-use mathlib.Core.List.{List, _++_}
-use Prim.Native.Nat.{ℕ, _-_, _<_, min}
+use mathlib.Core.Path.{_∙_}
 use native.Mathlib.Omega.{arith}
-use lib.ListN.{length, set, take, replicate}
+use lib.ListN.{set}
 use Rattle.day.proofs.Padding.{pad-next, pad-all}
 use Rattle.day.proofs.file.padded.Needs as need
 

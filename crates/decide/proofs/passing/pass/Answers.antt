@@ -1,7 +1,7 @@
 use mathlib.Core.Path.{_≡_, refl, sym, ap, subst, _∙_}
 use mathlib.Core.Bool.{false}
 use mathlib.Core.List.{List}
-use Prim.Native.Nat.{ℕ, _-_, _<_}
+use Prim.Native.Nat.{ℕ, _-_, _≤_, _<_}
 use native.Mathlib.Omega.{arith}
 use lib.ListN.{length, getD, take, drop}
 use Rattle.change.specs.Change.{Change, line}
@@ -18,7 +18,7 @@ use Rattle.decide.specs.declared.decision.Decision.{Decision}
 use Rattle.decide.specs.declared.decision.Decision.the-variants.{Wait, Land, Reject}
 use Rattle.decide.proofs.Moves.{tallies-land}
 use Rattle.decide.proofs.Looks.{looked, looks-bad, looks-good, looks-in-vain, looks-on, shares-no, shares-none, shares-yes, stored-fits}
-use Rattle.decide.proofs.Turns.{Underway, behind, by-runs, done, held-verdicts, lands, rejects, stays, taken-out, turned-decided, turned-held, turned-none}
+use Rattle.decide.proofs.Turns.{Underway, behind, behind-stays, by-runs, done, done-state, held-verdicts, lands, rejects, stays, taken-out, turned-decided, turned-held, turned-none}
 use Rattle.decide.proofs.passing.pass.Needs as need
 use Rattle.decide.proofs.passing.pass.Needs.{else-parts-test, then-parts-test·then-loop-k-test·then-same-as·else-good-eq1, in-Wait, in-Land, in-Reject}
 
@@ -161,8 +161,12 @@ changes-again c =
 pub returns : need.returns
 returns c =
     let t = c .changes .inv in
+    let i : ℕ = c .changes .turn - c .changes .decided in
+    let all : getD (c .changes .queue) waiting-count 0 ≤ i = omega (arith, t .fewer, t .left, c .changes-test .left) in
     record {
-      passed = done (c .args .queue .now) (c .changes .queue) (c .changes .turn - c .changes .decided) (t .underway) (omega (arith, t .fewer, t .left, c .changes-test .left));
+      passed = done (c .args .queue .now) (c .changes .queue) i (t .underway) all;
+      state = done-state (c .args .queue .now) (c .changes .queue) i (t .underway) all;
+      behind = behind-stays (c .args .queue .now) (c .changes .queue) i (t .underway);
       settled = t .underway .settled;
       tallied = t .tallied;
     }
