@@ -16,7 +16,7 @@ was reported good, and none of them bad.
 
 RESULTS has a line for each result: a part, a colon, the changes in it parted by a plus, a blank,
 and good or bad. MAINLINE has a line for each landed change, in order: its number, then the parts
-that it touches, separated by blanks.
+that it touches, each behind a blank. Numbers have no zeros in front.
 
 Prints `every state was run and good`, or the first state that was never run or was bad.
 Ends with status 0 if it accepts, else with status 1.

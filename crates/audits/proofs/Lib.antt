@@ -1,3 +1,4 @@
 mod Log
 mod States
 mod Vouched
+mod Writing

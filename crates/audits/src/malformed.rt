@@ -13,6 +13,10 @@ pub enum Malformed {
     Number,
     // No or too many parts, one that is too large, or one that is named twice.
     Parts,
+    // Zeros in front of a number.
+    Zeros,
+    // More than a blank between two numbers, or zeros in front of one.
+    Blanks,
 }
 
 pub impl fmt::Display for Malformed as MalformedDisplay {
@@ -25,6 +29,9 @@ pub impl fmt::Display for Malformed as MalformedDisplay {
                 Malformed::Number => "expected a change's number, below 4294967296",
                 Malformed::Parts =>
                     "expected 1 to 8 different parts, each below 64, behind the change's number",
+                Malformed::Zeros => "expected numbers with no zeros in front",
+                Malformed::Blanks =>
+                    "expected numbers with no zeros in front, and one blank between two of them",
             },
         )
     }

@@ -1,10 +1,20 @@
 // Reads the two texts of an audit, line by line: a log of verdicts, and a main line.
+ghost use mathlib.Core.Path.{_≡_};
 ghost use Prim.Native.Nat.{_<_};
 ghost use Rattle.std.specs.Slices.{found};
+ghost use Rattle.std.specs.Vec.{made};
+ghost use Rattle.std.specs.declared.option.Option.the-variants.{None};
+ghost use Rattle.change.specs.Change.{fault};
+ghost use Rattle.change.specs.Records.{change-of};
+ghost use Rattle.audits.specs.Audit.{verdict-of};
+ghost use Rattle.audits.specs.Text.{landed-text, verdict-text};
 use super::malformed::Malformed;
 use super::malformed::Unread;
 use super::malformed::UnreadFromAlloc;
 use super::malformed::UnreadFromRefused;
+use super::text::Landed;
+use super::text::LandedDisplay;
+use super::text::VerdictDisplay;
 use super::verdict::Verdict;
 use change::Change;
 use change::MOST_PARTS;
@@ -37,8 +47,21 @@ fn read_changes(heap: Global, text: &str) -> Result<Vec<u64>, Unread> {
     Ok(changes)
 }
 
-// A line of the log, as `0:1+2 good`.
-pub fn read_verdict(heap: Global, line: &str) -> Result<Verdict, Unread> {
+// A line of the log, as `0:1+2 good`: what is read is what would be written so.
+pub fn read_verdict(heap: Global, line: &str) -> Result<Verdict, Unread>
+    ensures { λ r. ⌜ made r (λ v. verdict-text (verdict-of v) ≡ now (line .entry)) ⌝ }
+{
+    let v = take_apart(heap, line)?;
+    let text = format!(heap, "{v}")?;
+    if text.as_str() == line {
+        Ok(v)
+    } else {
+        Err(Unread::Line(Malformed::Zeros))
+    }
+}
+
+// The verdict that the pieces of a line say; a number may have zeros in front.
+fn take_apart(heap: Global, line: &str) -> Result<Verdict, Unread> {
     let Some((run, word)) = line.split_once(' ') else {
         return Err(Unread::Line(Malformed::Verdict));
     };
@@ -59,31 +82,40 @@ pub fn read_verdict(heap: Global, line: &str) -> Result<Verdict, Unread> {
     })
 }
 
-// A line of the main line: a change's number, then its parts.
-pub fn read_landed(line: &str) -> Result<Change, Malformed> {
+// A line of the main line, as `2 0 1`: what is read is what would be written so, and is a change that could land.
+pub fn read_landed(heap: Global, line: &str) -> Result<Change, Unread>
+    ensures text { λ r. ⌜ made r (λ c. landed-text (change-of c) ≡ now (line .entry)) ⌝ }
+    ensures sound { λ r. ⌜ made r (λ c. fault (change-of c) ≡ None) ⌝ }
+{
     let Some(first) = line.split_ascii_whitespace().next() else {
-        return Err(Malformed::Number);
+        return Err(Unread::Line(Malformed::Number));
     };
     let Some(number) = number_below(first, NUMBER_LIMIT) else {
-        return Err(Malformed::Number);
+        return Err(Unread::Line(Malformed::Number));
     };
     let c = with_parts(number, line)?;
-    match c.first_fault() {
-        None => Ok(c),
-        Some(_) => Err(Malformed::Parts),
+    if c.first_fault().is_some() {
+        return Err(Unread::Line(Malformed::Parts));
+    }
+    let landed = Landed(c);
+    let text = format!(heap, "{landed}")?;
+    if text.as_str() == line {
+        Ok(c)
+    } else {
+        Err(Unread::Line(Malformed::Blanks))
     }
 }
 
 // The change of this number with the parts that stand behind it in the line.
-fn with_parts(number: u64, line: &str) -> Result<Change, Malformed> {
+fn with_parts(number: u64, line: &str) -> Result<Change, Unread> {
     let mut count = 0;
     let mut parts = [0u64; MOST_PARTS];
     for word in line.split_ascii_whitespace().skip(1) {
         let Some(part) = number_below(word, PART_LIMIT) else {
-            return Err(Malformed::Parts);
+            return Err(Unread::Line(Malformed::Parts));
         };
         if count >= MOST_PARTS {
-            return Err(Malformed::Parts);
+            return Err(Unread::Line(Malformed::Parts));
         }
         parts[count] = part;
         count += 1;
@@ -115,13 +147,13 @@ pub fn read_log(heap: Global, text: &str) -> Result<Vec<Verdict>, (usize, Unread
 pub fn read_main_line(heap: Global, text: &str) -> Result<Vec<Change>, (usize, Unread)> {
     let mut main = Vec::new(heap);
     for (i, line) in text.lines().enumerate() {
-        match read_landed(line) {
+        match read_landed(heap, line) {
             Ok(c) => {
                 if main.push(c).is_err() {
                     return Err((i, Unread::Memory));
                 }
             }
-            Err(why) => return Err((i, Unread::Line(why))),
+            Err(why) => return Err((i, why)),
         }
     }
     Ok(main)
