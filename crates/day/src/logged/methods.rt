@@ -61,6 +61,13 @@ impl Day {
         self.log.as_slice()
     }
 
+    // Of every day, whatever was applied to it: the two promises hold. It says so and does nothing.
+    pub fn keeps_promises(&self) -> u8
+        ensures { λ _. ⌜ Promised (now (self .entry)) ⌝ }
+    {
+        0
+    }
+
     // Applies an event, which joins the log if it is taken; want of memory and a refusal leave all as it was.
     // What was promised of whole days holds of this day, before and after.
     pub fn apply(&mut self, event: [u64; EVENT_LENGTH]) -> Result<Reply, AllocError>
@@ -97,7 +104,7 @@ impl Day {
     fn holds_back(&self, kind: u64) -> bool
         ensures { λ r. ⌜ r ≡ (eqb kind 0 && leb (now (self .entry) .most) (changes-held (numbers-of (now (self .entry))))) ⌝ }
     {
-        let queue = self.numbers.as_slice();
+        let queue = self.numbers();
         let landed = u128::from(number_at(queue, LANDED_COUNT));
         let waiting = u128::from(number_at(queue, WAITING_COUNT));
         let rejected = u128::from(number_at(queue, REJECTED_COUNT));
@@ -108,7 +115,7 @@ impl Day {
     fn turn_away(&self, event: [u64; EVENT_LENGTH]) -> Result<Reply, AllocError>
         ensures { λ r. ⌜ made r (λ reply. reply ≡ turned-away (stepped (numbers-of (now (self .entry))) event .0)) ⌝ }
     {
-        let mut copy = Vec::from_slice(self.numbers.allocator(), self.numbers.as_slice())?;
+        let mut copy = Vec::from_slice(self.numbers.allocator(), self.numbers())?;
         let reply = queue::apply(&mut copy, &event);
         Ok(one_too_many(reply))
     }
