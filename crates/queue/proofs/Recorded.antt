@@ -2,11 +2,11 @@
 use mathlib.Core.Path.{_≡_, refl, sym, ap, subst, _∙_}
 use mathlib.Core.Bool.{Bool, true, false, cond}
 use mathlib.Core.List.{List, [], _∷_, _++_}
-use Prim.Native.Nat.{ℕ, zero, suc, _+_, _-_, _*_, _≤_, _<_}
+use Prim.Native.Nat.{ℕ, suc, _+_, _-_, _*_, _≤_, _<_}
 use native.Mathlib.Omega.{arith}
 use borrow.Rule.Slice.PartMut.{putMid}
 use lib.Dec.{eqb}
-use lib.ListN.{length, getD, take, drop, set, length-append, length-drop}
+use lib.ListN.{length, getD, take, drop, set, length-drop}
 use Rattle.std.specs.Options.{mapped}
 use Rattle.std.specs.declared.option.Option.{Option}
 use Rattle.std.specs.declared.option.Option.the-variants.{Some, None}
@@ -15,9 +15,7 @@ use Rattle.std.proofs.shelf.Elements.{all-push}
 use Rattle.std.specs.shelf.Lists.{All}
 use Rattle.std.proofs.shelf.Counted.{fill-by-all}
 use Rattle.change.specs.Change.{Change, place-of, dropped, without}
-use Rattle.change.specs.Records.{change-in, change-row, change-width, changes-in, table, written, row-out}
-use Rattle.change.proofs.Rows.{length-rows}
-use Rattle.change.proofs.Changes.{length-change-row}
+use Rattle.change.specs.Records.{change-row, change-width, changes-in, table, written, row-out}
 use Rattle.run.specs.Layout.{most-landed, most-waiting, most-rejected, benches-at, depth-at, landed-count, waiting-count, rejected-count, verdicts-count, running-count, requested-at, landed-at, waiting-at, rejected-at, queue-length}
 use Rattle.run.specs.Numbers.{Sections, sections, whole, landed-in, waiting-in, rejected-in, changes-section, with-changes, decode, Runs-fit, Settled, Small}
 use Rattle.run.specs.State.{Queue}
@@ -25,7 +23,7 @@ use Rattle.decide.proofs.Moves.{section-less, length-without, all-without}
 use Rattle.queue.specs.Queue.{with-waiting}
 use Rattle.queue.specs.Stages.{Roomy, Sound, Says}
 use Rattle.queue.specs.declared.counts.Counts.{Counts}
-use Rattle.run.proofs.Sections.{Sized, landed-as, waiting-as, rejected-as, put-landed, put-waiting, put-rejected, get-counter, whole-sections, sized-sections, sections-whole}
+use Rattle.run.proofs.Sections.{Sized, landed-as, waiting-as, put-landed, put-waiting, put-rejected, get-counter, whole-sections, sized-sections, sections-whole}
 use Rattle.run.proofs.Changed.{section-long, count-landed, count-waiting, count-rejected, small-changes, Fitting, runs-settled, settled-changed, decode-changed, waiting-written, config-changed, behind-changed}
 use Rattle.run.proofs.Round.{change-records, rows-section}
 

@@ -1,8 +1,8 @@
-use mathlib.Core.Path.{_≡_, sym, ap, _∙_}
+use mathlib.Core.Path.{_≡_, sym, _∙_}
 use mathlib.Core.List.{List}
 use Prim.Native.Nat.{ℕ, _+_, _≤_}
 use native.Mathlib.Omega.{arith}
-use lib.ListN.{length, getD, take, drop, set, length-set, length-drop}
+use lib.ListN.{length, take, drop, set, length-set, length-drop}
 use Rattle.std.proofs.shelf.Lists.{length-take-le}
 use Rattle.change.specs.Change.{most-parts}
 use Rattle.change.proofs.Tidied.{used-part, unused-part, part-is, part-written, record-tidied}

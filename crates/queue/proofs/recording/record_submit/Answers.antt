@@ -1,4 +1,4 @@
-use mathlib.Core.Path.{_≡_, ap, _∙_}
+use mathlib.Core.Path.{ap, _∙_}
 use mathlib.Core.List.{List, [], _∷_, _++_}
 use Prim.Native.Nat.{ℕ, _+_, _*_, _≤_}
 use native.Mathlib.Omega.{arith}
@@ -10,7 +10,7 @@ use Rattle.run.specs.State.{Queue}
 use Rattle.run.specs.Numbers.{decode, waiting-in}
 use Rattle.run.specs.Layout.{most-waiting}
 use Rattle.decide.proofs.Moves.{section-more}
-use Rattle.queue.specs.Queue.{join, recorded, submit, with-waiting}
+use Rattle.queue.specs.Queue.{join, recorded, with-waiting}
 use Rattle.queue.proofs.Recorded.{says-next, says-waiting, length-waiting, fitting-more}
 use Rattle.queue.proofs.recording.record_submit.Needs as need
 
