@@ -1,0 +1,3 @@
+mod Log
+mod States
+mod Vouched
