@@ -111,7 +111,7 @@ impl Day {
         kind == SUBMIT && u128::from(self.most) <= landed + waiting + rejected
     }
 
-    // What a full day answers to a submission. It is asked of a copy of the queue, which is never to take it.
+    // What a full day answers to a submission. A copy is asked, since the queue itself must not take the event.
     fn turn_away(&self, event: [u64; EVENT_LENGTH]) -> Result<Reply, AllocError>
         ensures { λ r. ⌜ made r (λ reply. reply ≡ turned-away (stepped (numbers-of (now (self .entry))) event .0)) ⌝ }
     {
