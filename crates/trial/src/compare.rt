@@ -1,0 +1,144 @@
+// Holds the queue's state against serial testing, and against what it promises of the runs that are running.
+ghost use Prim.Native.Nat.{_≤_, _<_};
+ghost use lib.ListN.{length};
+ghost use Rattle.run.specs.Layout.{queue-length, most-running};
+use super::bench::HashBench;
+use super::bench::HashBenchSays;
+use super::state;
+use change::Change;
+use change::PART_LIMIT;
+use run::BENCHES_AT;
+use run::WAITING_COUNT;
+use serial::decide_serially;
+use serial::line_of;
+use std::alloc::AllocError;
+use std::alloc::Global;
+use std::fmt;
+
+#[derive(Clone, Copy, PartialEq, Eq)]
+pub enum Difference {
+    // A change waits, and no run is running.
+    Idle,
+    // More runs are running than there are benches.
+    Crowded,
+    // A run is running twice.
+    Twice,
+    // The part's line is not that of serial testing.
+    Line(u64),
+    // Others are rejected than by serial testing.
+    Rejected,
+    // All runs were reported, and a change still waits.
+    Undecided,
+}
+
+pub impl fmt::Display for Difference as DifferenceDisplay {
+    fn fmt<W: fmt::Write>(&self, f: &mut fmt::Formatter<W>) -> fmt::Result {
+        match self {
+            Difference::Idle => write!(f, "a change waits and no run is running"),
+            Difference::Crowded => write!(f, "more runs are running than there are benches"),
+            Difference::Twice => write!(f, "a run is running twice"),
+            Difference::Line(part) => write!(
+                f,
+                "the line of part {part} is not that of serial testing"
+            ),
+            Difference::Rejected => write!(f, "others are rejected than by serial testing"),
+            Difference::Undecided => write!(f, "every run was reported and a change still waits"),
+        }
+    }
+}
+
+// Never idle, and only useful runs.
+pub fn check_running(queue: &[u64]) -> Option<Difference>
+    requires { ⌜ queue-length ≤ length (now queue) ⌝ }
+{
+    let running = state::running_count(queue);
+    if running == 0 && queue[WAITING_COUNT] > 0 {
+        return Some(Difference::Idle);
+    }
+    if running as u64 > queue[BENCHES_AT] {
+        return Some(Difference::Crowded);
+    }
+    for place in 0..running {
+        if runs_before(queue, place) {
+            return Some(Difference::Twice);
+        }
+    }
+    None
+}
+
+// Whether the run at this place stands at an earlier one too: all begin with their part's whole line, so equal runs have equal numbers.
+fn runs_before(queue: &[u64], place: usize) -> bool
+    requires long { ⌜ queue-length ≤ length (now queue) ⌝ }
+    requires there { ⌜ place < most-running ⌝ }
+{
+    for earlier in 0..place {
+        if state::running_row(queue, earlier) == state::running_row(queue, place) {
+            return true;
+        }
+    }
+    false
+}
+
+// The lines on every part and the rejected changes, against serial testing of the arrivals that do not wait.
+pub fn check_decided(
+    heap: Global,
+    queue: &[u64],
+    bench: &HashBench,
+    arrivals: &[Change],
+) -> Result<Option<Difference>, AllocError>
+    requires { ⌜ queue-length ≤ length (now queue) ⌝ }
+{
+    let waiting = state::waiting(heap, queue)?;
+    let taken = without(heap, arrivals, waiting.as_slice())?;
+    let serial = decide_serially(heap, bench, taken.as_slice())?;
+    let landed = state::landed(heap, queue)?;
+    for part in 0..PART_LIMIT {
+        let line = line_of(heap, landed.as_slice(), part)?;
+        let expected = line_of(heap, serial.landed.as_slice(), part)?;
+        if line.as_slice() != expected.as_slice() {
+            return Ok(Some(Difference::Line(part)));
+        }
+    }
+    let rejected = state::rejected(heap, queue)?;
+    if same_numbers(heap, rejected.as_slice(), serial.rejected.as_slice())? {
+        Ok(None)
+    } else {
+        Ok(Some(Difference::Rejected))
+    }
+}
+
+// The changes that are not among the others.
+fn without(heap: Global, changes: &[Change], others: &[Change]) -> Result<Vec<Change>, AllocError> {
+    let mut kept = Vec::new(heap);
+    for c in changes {
+        if !numbered(others, c.number) {
+            kept.push(*c)?;
+        }
+    }
+    Ok(kept)
+}
+
+fn numbered(changes: &[Change], number: u64) -> bool {
+    for c in changes {
+        if c.number == number {
+            return true;
+        }
+    }
+    false
+}
+
+// Whether the changes have the same numbers, in whatever order: the queue may reject a later change first.
+fn same_numbers(heap: Global, some: &[Change], others: &[Change]) -> Result<bool, AllocError> {
+    let some = sorted_numbers(heap, some)?;
+    let others = sorted_numbers(heap, others)?;
+    Ok(some.as_slice() == others.as_slice())
+}
+
+fn sorted_numbers(heap: Global, changes: &[Change]) -> Result<Vec<u64>, AllocError> {
+    let mut numbers = Vec::new(heap);
+    for c in changes {
+        numbers.push(c.number)?;
+    }
+    numbers.sort();
+    Ok(numbers)
+}
