@@ -1,6 +1,6 @@
 -- An audit that finds no fault, and a log that vouches for every state, are the same.
 use mathlib.Core.Path.{_≡_, refl, sym, ap, subst, _∙_}
-use mathlib.Core.Bool.{Bool, true, false, cond, _||_}
+use mathlib.Core.Bool.{Bool, true, false, cond}
 use mathlib.Core.List.{List, [], _∷_, _++_, append-assoc}
 use mathlib.Core.Logic.{⊎-elim}
 use Prim.Native.Nat.{ℕ, zero, suc, _<_}
@@ -13,9 +13,8 @@ use Rattle.std.specs.declared.option.Option.the-variants.{Some, None}
 use Rattle.std.proofs.shelf.Tests.{eq-eqb, eqb-true, or-cases, or-left, or-right, true≢false}
 use Rattle.change.specs.Change.{Change, has}
 use Rattle.run.specs.Run.{Run, Verdict}
-use Rattle.run.specs.declared.known.Known.{Known}
 use Rattle.run.specs.declared.known.Known.the-variants.{Nothing, Good, Bad}
-use Rattle.audits.specs.Audit.{Accepts-exactly, Fault, audited, faulty, first-fault, log-says, said-bad, said-good, state, states-at, states-from}
+use Rattle.audits.specs.Audit.{Accepts-exactly, Fault, faulty, first-fault, log-says, said-bad, said-good, state, states-at, states-from}
 
 abbrev Vouched : List Verdict → Run → Type 0
 Vouched vs r = (said-good r vs ≡ true) × (said-bad r vs ≡ false)

@@ -16,8 +16,8 @@ use lib.Seq.{append-snoc}
 use Rattle.std.proofs.shelf.Lists.{at-drop-more, at-drop-all, getD-take, length-take-le, set-at, take-more, append-nil, drop-all, getD-drop, drop-take, take-take, take-append-le}
 use Rattle.std.proofs.shelf.Tests.{cond-both, cases-bool, eq-eqb, ne-eqb}
 use Rattle.change.specs.Change.{Change, has, share, line, numbered, place-of}
-use Rattle.change.specs.Records.{change-in, change-row, change-of, changes-in, change-width, rows, fixed}
-use Rattle.change.proofs.Rows.{rest, rest-none, rest-more, rest-all, length-fixed, take-fixed, Local}
+use Rattle.change.specs.Records.{change-in, change-row, changes-in, change-width, fixed}
+use Rattle.change.proofs.Rows.{rest, rest-none, rest-more, length-fixed, take-fixed, Local}
 
 -- one step of a search through the first n of xs
 pub has-more : (xs : List ℕ) (n i p : ℕ) → i < n → n ≤ length xs → has (drop i (take n xs)) p ≡ (eqb (getD xs i 0) p || has (drop (i + 1) (take n xs)) p)

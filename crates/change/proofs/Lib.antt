@@ -1,4 +1,5 @@
 pub mod Rows
 pub mod Changes
 pub mod Seen
+mod Tidied
 pub mod Tables

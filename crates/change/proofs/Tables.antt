@@ -4,9 +4,8 @@ use mathlib.Core.List.{List, [], _∷_, _++_}
 use Prim.Native.Nat.{ℕ, zero, suc, _+_, _-_, _*_, _≤_, _<_}
 use native.Mathlib.Omega.{arith}
 use native.Mathlib.Nat.{mul-add, mul-suc, mul-zero}
-use lib.ListN.{length, getD, take, drop, replicate, set, length-take, length-drop, length-append, length-replicate, take-append-drop}
-use lib.Seq.{take-append-seam, drop-append-add, take-append-add}
-use Rattle.std.proofs.shelf.Lists.{append-assoc, append-nil, take-at, drop-at, drop-drop, drop-replicate, replicate-append-replicate, length-take-le, take-append-le, drop-append-le, take-more, drop-more, length-push, getD-at}
+use lib.ListN.{length, getD, take, drop, replicate, length-take, length-drop, length-append, length-replicate, take-append-drop}
+use Rattle.std.proofs.shelf.Lists.{append-assoc, append-nil, take-at, drop-at, drop-drop, drop-replicate, replicate-append-replicate, length-take-le, drop-more, length-push, getD-at}
 use Rattle.std.specs.shelf.Lists.{All}
 use Rattle.change.proofs.Rows.{rows-split, length-rows, rows-append, put-middle}
 use borrow.Rule.Slice.PartMut.{putMid}
@@ -55,16 +54,6 @@ module _ {A : Type 0} (row : A → List ℕ) (w : ℕ) (len : (x : A) → length
   pub joined-split : (xs : List A) (i : ℕ) (d : A) → i < length xs → joined row xs ≡ joined row (take i xs) ++ (row (getD xs i d) ++ joined row (drop (i + 1) xs))
   joined-split xs i d lt =
       ap (joined row) (sym (take-append-drop i xs)) ∙ (joined-append row (take i xs) (drop i xs) ∙ ap (λ l. joined row (take i xs) ++ joined row l) (drop-more xs i d lt))
-
-  pub table-at : (n i : ℕ) (xs : List A) (d : A) → i < length xs → take w (drop (w * i) (table row n xs)) ≡ row (getD xs i d)
-  table-at n i xs d lt =
-      let F : List ℕ = joined row (take i xs) in
-      let r : List ℕ = row (getD xs i d) in
-      let B : List ℕ = joined row (drop (i + 1) xs) in
-      let Z : List ℕ = replicate (n - w * length xs) 0 in
-      let l : length F ≡ w * i = length-joined (take i xs) ∙ ap (λ u. w * u) (length-take-le i xs (omega arith)) in
-      let s : table row n xs ≡ F ++ (r ++ (B ++ Z)) = table-is n (w * length xs) xs refl ∙ (ap (λ j. j ++ Z) (joined-split xs i d lt) ∙ (append-assoc F (r ++ B) Z ∙ ap (λ b. F ++ b) (append-assoc r B Z))) in
-      ap (λ t. take w (drop (w * i) t)) s ∙ (ap (take w) (drop-at F (r ++ (B ++ Z)) (w * i) l) ∙ take-at r (B ++ Z) w (len (getD xs i d)))
 
   -- a row taken out
   pub table-out : (n i : ℕ) (xs : List A) (d : A) → i < length xs → w * length xs ≤ n → row-out w (length xs) i (table row n xs) ≡ table row n (take i xs ++ drop (i + 1) xs)

@@ -91,14 +91,26 @@ fn clear(section: &mut [u64])
     section.fill(0);
 }
 
+// Writes a record as it reads: no more parts than it has room for, and 0 in those that it does not use.
+fn tidy_change(row: &mut [u64])
+    requires { ⌜ length (now row) ≡ change-width ⌝ }
+    ensures { λ _. ⌜ now (row .exit) ≡ change-row (change-in (now (row .entry))) ⌝ }
+{
+    let count = row[1].min(MOST_PARTS as u64);
+    row[1] = count;
+    for j in 0..MOST_PARTS {
+        // Written in any case, so that no branch is taken.
+        row[2 + j] = if (j as u64) < count { row[2 + j] } else { 0 };
+    }
+}
+
 // Writes the first n changes of a section as they read, and 0 behind them.
 pub fn tidy_changes(section: &mut [u64], n: usize)
     requires { ⌜ change-width * n ≤ length (now section) ⌝ }
     ensures { λ _. ⌜ now (section .exit) ≡ table change-row (length (now (section .entry))) (changes-in n (now (section .entry))) ⌝ }
 {
     for i in 0..n {
-        let c = change_at(section, CHANGE_WIDTH * i);
-        append_change(section, i, c);
+        tidy_change(&mut section[CHANGE_WIDTH * i..CHANGE_WIDTH * i + CHANGE_WIDTH]);
     }
     let end = section.len();
     clear(&mut section[CHANGE_WIDTH * n..end]);

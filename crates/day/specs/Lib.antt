@@ -1,4 +1,6 @@
 pub mod Day
 pub mod DayFile
+pub mod Logged
+pub mod Played
 pub mod Text
 pub mod WorkedDay

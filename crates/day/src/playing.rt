@@ -1,63 +1,89 @@
 // Plays a day: writes a line for each of its events.
 ghost use mathlib.Core.Path.{_≡_};
 ghost use Rattle.std.specs.Vec.{made};
-ghost use Rattle.std.specs.Written.{Prints};
-ghost use Rattle.day.specs.Day.{printed, lines, ends, day-text, day-end};
+ghost use Rattle.day.specs.Day.{Plays, day-text, ends, lines, printed};
 ghost use Rattle.day.specs.DayFile.{events-of};
+ghost use Rattle.day.specs.Logged.{Promised, numbers-of};
 use super::file::CONFIG_BYTES;
 use super::file::config_read;
 use super::file::next_event;
+use super::logged::Day;
+use super::logged::NotOpened;
 use super::reply::ReplyLine;
 use super::reply::ReplyLineDisplay;
 use super::slices::past;
 use queue::Reply;
-use queue::apply;
-use queue::open;
+use std::alloc::Global;
 use std::fmt;
 
-// Plays the day that a file says on lent numbers, and writes its text.
+// How many changes a day usually holds at most.
+pub const USUAL_CHANGES: u64 = 64;
+
+// More than the queue's sections have places for: a day with this limit is limited by them alone.
+pub const UNLIMITED_CHANGES: u64 = u64::MAX;
+
+// Why a day was not played to its end.
+#[derive(Clone, Copy)]
+pub enum NotPlayed {
+    // There is no memory for the queue or its log.
+    Memory,
+    // A line could not be written.
+    Output,
+}
+
+// Plays the day that a file says, which holds at most so many changes, and writes its text.
 pub fn play<W: fmt::Write>(
     f: &mut fmt::Formatter<W>,
-    queue: &mut [u64],
+    heap: Global,
+    most: u64,
     bytes: &[u8],
-) -> fmt::Result
-    ensures text { λ r. ⌜ Prints took (now (f .entry)) r (day-text (now (queue .entry)) (now (bytes .entry))) (now (f .exit)) ⌝ }
-    ensures after { λ r. ⌜ made r (λ _. now (queue .exit) ≡ day-end (now (queue .entry)) (now (bytes .entry))) ⌝ }
+) -> Result<(), NotPlayed>
+    ensures { λ r. ⌜ Plays took (now (f .entry)) r (day-text most (now (bytes .entry))) (now (f .exit)) ⌝ }
 {
     let Some((benches, depth)) = config_read(bytes) else {
         return Ok(());
     };
-    let reply = open(queue, benches, depth);
-    match reply {
-        Reply::Done(_) => play_events(f, queue, past(bytes, CONFIG_BYTES)),
-        Reply::Refused(_) => write_reply(f, reply, queue),
+    match Day::open(heap, benches, depth, most) {
+        Ok(mut day) => play_events(f, &mut day, past(bytes, CONFIG_BYTES)),
+        Err(why) => match why {
+            NotOpened::Refused(refusal) => write_reply(f, Reply::Refused(refusal), &[]),
+            NotOpened::Memory => Err(NotPlayed::Memory),
+        },
     }
 }
 
 // Writes the line of a reply and the queue's numbers after it.
-fn write_reply<W: fmt::Write>(f: &mut fmt::Formatter<W>, reply: Reply, queue: &[u64]) -> fmt::Result
-    ensures { λ r. ⌜ Prints took (now (f .entry)) r (printed (reply, now (queue .entry))) (now (f .exit)) ⌝ }
+fn write_reply<W: fmt::Write>(
+    f: &mut fmt::Formatter<W>,
+    reply: Reply,
+    queue: &[u64],
+) -> Result<(), NotPlayed>
+    ensures { λ r. ⌜ Plays took (now (f .entry)) r (printed (reply, now (queue .entry))) (now (f .exit)) ⌝ }
 {
     let line = ReplyLine { reply, queue };
-    writeln!(f, "{line}")
+    match writeln!(f, "{line}") {
+        Ok(()) => Ok(()),
+        Err(_) => Err(NotPlayed::Output),
+    }
 }
 
-// Applies one event after another, and writes the line of each.
-fn play_events<W: fmt::Write>(
+// Applies one event after another, and writes the line of each. The promises hold of the day wherever it ends.
+pub fn play_events<W: fmt::Write>(
     f: &mut fmt::Formatter<W>,
-    queue: &mut [u64],
+    day: &mut Day,
     bytes: &[u8],
-) -> fmt::Result
-    ensures text { λ r. ⌜ Prints took (now (f .entry)) r (lines (now (queue .entry)) (events-of (now (bytes .entry)))) (now (f .exit)) ⌝ }
-    ensures after { λ r. ⌜ made r (λ _. now (queue .exit) ≡ ends (now (queue .entry)) (events-of (now (bytes .entry)))) ⌝ }
+) -> Result<(), NotPlayed>
+    ensures text { λ r. ⌜ Plays took (now (f .entry)) r (lines (now (day .entry) .most) (numbers-of (now (day .entry))) (events-of (now (bytes .entry)))) (now (f .exit)) ⌝ }
+    ensures after { λ r. ⌜ made r (λ _. numbers-of (now (day .exit)) ≡ ends (now (day .entry) .most) (numbers-of (now (day .entry))) (events-of (now (bytes .entry)))) ⌝ }
+    ensures promised { λ _. ⌜ Promised (now (day .exit)) ⌝ }
 {
     let mut rest = bytes;
     while let Some(next) = next_event(rest) {
-        let taken = next.0;
-        let event = next.1;
-        let reply = apply(queue, &event);
-        write_reply(f, reply, queue)?;
-        rest = past(rest, taken);
+        let Ok(reply) = day.apply(next.1) else {
+            return Err(NotPlayed::Memory);
+        };
+        write_reply(f, reply, day.numbers())?;
+        rest = past(rest, next.0);
     }
     Ok(())
 }

@@ -1,3 +1,3 @@
-mod Moves
+pub mod Moves
 mod Turns
 mod Looks

@@ -38,7 +38,11 @@ module _ (vs : List Verdict) (i : ℕ) (L W R : List Change) (x : Change) (lt : 
   here : drop i W ≡ x ∷ drop (i + 1) W
   here = drop-more W i none lt ∙ ap (λ y. y ∷ drop (i + 1) W) (sym is)
 
-  turned : from vs i L W R ≡ by-decision (decision vs (take i W) L x) (pass vs (take i W ++ x ∷ []) L R (drop (i + 1) W)) (pass vs (take i W) (L ++ x ∷ []) R (drop (i + 1) W)) (pass vs (take i W) L (R ++ x ∷ []) (drop (i + 1) W))
+  -- how the pass goes on by the decision
+  abbrev next : Decision → Passed
+  next d = by-decision d (pass vs (take i W ++ x ∷ []) L R (drop (i + 1) W)) (pass vs (take i W) (L ++ x ∷ []) R (drop (i + 1) W)) (pass vs (take i W) L (R ++ x ∷ []) (drop (i + 1) W))
+
+  turned : from vs i L W R ≡ next (decision vs (take i W) L x)
   unfolding pass
   turned = ap (pass vs (take i W) L R) here
 
@@ -50,25 +54,19 @@ module _ (vs : List Verdict) (i : ℕ) (L W R : List Change) (x : Change) (lt : 
 
   pub from-waits : decision vs (take i W) L x ≡ Wait → from vs i L W R ≡ from vs (i + 1) L W R
   from-waits e =
-      turned
-      ∙ (ap (λ d. by-decision d (pass vs (take i W ++ x ∷ []) L R (drop (i + 1) W)) (pass vs (take i W) (L ++ x ∷ []) R (drop (i + 1) W)) (pass vs (take i W) L (R ++ x ∷ []) (drop (i + 1) W))) e
-      ∙ ap (λ l. pass vs l L R (drop (i + 1) W)) (sym (take-more W i none lt ∙ ap (λ y. take i W ++ y ∷ []) (sym is))))
+      turned ∙ (ap next e ∙ ap (λ l. pass vs l L R (drop (i + 1) W)) (sym (take-more W i none lt ∙ ap (λ y. take i W ++ y ∷ []) (sym is))))
 
   pub from-lands : decision vs (take i W) L x ≡ Land → from vs i L W R ≡ from vs i (L ++ x ∷ []) (without i W) R
   from-lands e =
-      turned
-      ∙ (ap (λ d. by-decision d (pass vs (take i W ++ x ∷ []) L R (drop (i + 1) W)) (pass vs (take i W) (L ++ x ∷ []) R (drop (i + 1) W)) (pass vs (take i W) L (R ++ x ∷ []) (drop (i + 1) W))) e
-      ∙ (λ j. pass vs (sym front j) (L ++ x ∷ []) R (sym back j)))
+      turned ∙ (ap next e ∙ (λ j. pass vs (sym front j) (L ++ x ∷ []) R (sym back j)))
 
   pub from-rejects : decision vs (take i W) L x ≡ Reject → from vs i L W R ≡ from vs i L (without i W) (R ++ x ∷ [])
   from-rejects e =
-      turned
-      ∙ (ap (λ d. by-decision d (pass vs (take i W ++ x ∷ []) L R (drop (i + 1) W)) (pass vs (take i W) (L ++ x ∷ []) R (drop (i + 1) W)) (pass vs (take i W) L (R ++ x ∷ []) (drop (i + 1) W))) e
-      ∙ (λ j. pass vs (sym front j) L (R ++ x ∷ []) (sym back j)))
+      turned ∙ (ap next e ∙ (λ j. pass vs (sym front j) L (R ++ x ∷ []) (sym back j)))
 
 pub from-all : (vs : List Verdict) (i : ℕ) (L W R : List Change) → length W ≤ i → from vs i L W R ≡ record { landed = L; waiting = W; rejected = R }
 unfolding pass
-from-all vs i L W R le = (λ j. pass vs (take-all i W le j) L R (drop-all i W le j))
+from-all vs i L W R le = λ j. pass vs (take-all i W le j) L R (drop-all i W le j)
 
 -- the verdicts that the numbers hold
 abbrev pub held-verdicts : List ℕ → List Verdict
@@ -81,7 +79,6 @@ with-lists L W R q = record { landed = L; waiting = W; rejected = R; verdicts = 
 -- the pass over `old` after some turns: the numbers are `new`, and the first i of those that wait were looked at
 pub record Underway (old new : List ℕ) (i : ℕ) : Type 0 where
   pub settled : Settled new
-  pub few : i ≤ getD new waiting-count 0
   pub verdicts : held-verdicts new ≡ held-verdicts old
   pub count : getD new verdicts-count 0 ≡ getD old verdicts-count 0
   pub same : (L W R : List Change) → with-changes new L W R ≡ with-changes old L W R
@@ -90,7 +87,7 @@ pub record Underway (old new : List ℕ) (i : ℕ) : Type 0 where
 
 pub start : (xs : List ℕ) → Settled xs → Underway xs xs 0
 unfolding decode
-start xs h = record { settled = h; few = omega arith; verdicts = refl; count = refl; same = λ L W R. refl; state = refl; goes-on = refl }
+start xs h = record { settled = h; verdicts = refl; count = refl; same = λ L W R. refl; state = refl; goes-on = refl }
 
 -- where all were looked at, the numbers are those that the pass gives, and they say its state
 module _ (old new : List ℕ) (i : ℕ) (u : Underway old new i) (le : getD new waiting-count 0 ≤ i) where
@@ -142,7 +139,6 @@ module _ (old new : List ℕ) (i : ℕ) (x : Change) (u : Underway old new i) (l
       let d = ap (λ vs. decision vs (take i W) L x) (sym (u .verdicts)) ∙ e in
       record {
         settled = u .settled;
-        few = omega arith;
         verdicts = u .verdicts;
         count = u .count;
         same = u .same;
@@ -167,7 +163,6 @@ module _ (old new : List ℕ) (i : ℕ) (x : Change) (u : Underway old new i) (l
       let left : getD zs waiting-count 0 + 1 ≡ getD new waiting-count 0 = omega (arith, count-waiting zs, ap length waiting, length-without i W there, count-waiting new) in (
         record {
           settled = settled-changed new zs ds (without i W) R₁ (runs-settled new h) fit₁ z₁;
-          few = omega (arith, left);
           verdicts = verdicts-changed new zs ds (without i W) R₁ (runs-settled new h) fit₁ z₁ ∙ u .verdicts;
           count = ap (λ l. getD l verdicts-count 0) z ∙ u .count;
           same = λ L₂ W₂ R₂. again L₂ W₂ R₂ ∙ u .same L₂ W₂ R₂;

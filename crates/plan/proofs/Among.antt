@@ -24,6 +24,7 @@ use Rattle.plan.specs.Numbers.{first-waiting, useful-now, Ready}
 use Rattle.run.proofs.Compared.{same-run-true, other-part, other-changes}
 use Rattle.plan.proofs.Ahead.{ahead-on}
 
+-- a run among two lists is among the one or the other
 among-parts : (r : Run) (xs ys : List Run) → among r (xs ++ ys) ≡ (among r xs || among r ys)
 among-parts r [] ys = refl
 among-parts r (x ∷ xs) ys = go (among-parts r xs ys) (same-run r x)
@@ -88,6 +89,7 @@ useful-more d i cs ws x ld lw =
     ∙ (ap (useful (suc (d - (i + 1))) (cs ++ take i ws)) (drop-more ws i x lw)
     ∙ ap (λ b. runs-on (cs ++ take i ws) (getD ws i x .number) (getD ws i x .parts) ++ useful (d - (i + 1)) b (drop (i + 1) ws)) (append-assoc cs (take i ws) (getD ws i x ∷ []) ∙ ap (λ b. cs ++ b) (sym (take-more ws i x lw))))
 
+-- past the last that is looked at nothing is useful
 useful-none : (before : List Change) (n : ℕ) → useful n before [] ≡ []
 unfolding useful
 useful-none before zero = refl
@@ -100,12 +102,13 @@ useful-all d i before ws le = ⊎-elim
     (λ h. let z : d - i ≡ 0 = omega arith in ap (λ u. useful u before (drop i ws)) z)
     (cases-lt i d)
 
--- the i-th that waits, and those before it
+-- the first of some records
 front-rows : {A : Type 0} (f : List ℕ → A) (w n i : ℕ) (xs : List ℕ) → i ≤ n → take i (rows f w n xs) ≡ rows f w i xs
 front-rows f w n i xs le =
     let k : n ≡ i + (n - i) = omega arith in
     ap (λ u. take i (rows f w u xs)) k ∙ (ap (take i) (rows-append f w i (n - i) xs) ∙ take-at (rows f w i xs) (rows f w (n - i) (drop (w * i) xs)) i (length-rows f w i xs))
 
+-- the i-th that waits is looked at: a run is one of its own, or it is among the later ones if it is useful
 module _ (cs : List Change) (xs : List ℕ) (m d i : ℕ) (x : Change) (lm : i < m) (ld : i < d) (is : x ≡ change-in (drop (waiting-at + change-width * i) xs)) where
   abbrev ws : List Change
   ws = first-waiting m xs

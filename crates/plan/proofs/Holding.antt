@@ -103,17 +103,19 @@ module _ (cs : List Change) (b v n m : ℕ) (vs xs ys row : List ℕ) (ks : List
   request-one e f = by-test wanted refl (e ∙ ap (λ t. cond t (written (run-width * n) row xs) xs) same-test) (f ∙ ap (λ t. cond t (n + 1) n) same-test)
 
 module _ (b : ℕ) (vs : List Verdict) where
-  -- requesting all of a list
+  -- requesting two lists one after the other
   pub request-append : (rs xs ys : List Run) → request b vs rs (xs ++ ys) ≡ request b vs (request b vs rs xs) ys
   unfolding request
   request-append rs [] ys = refl
   request-append rs (x ∷ xs) ys = request-append (cond (ltb (length rs) b && lacks vs rs x) (rs ++ x ∷ []) rs) xs ys
 
+  -- with no bench free nothing is requested
   pub request-full : (rs us : List Run) → b ≤ length rs → request b vs rs us ≡ rs
   unfolding request
   request-full rs [] le = refl
   request-full rs (u ∷ us) le = ap (λ t. request b vs (cond (t && lacks vs rs u) (rs ++ u ∷ []) rs) us) (le-ltb (length rs) b le) ∙ request-full rs us le
 
+  -- requesting nothing, and one run before others
   pub request-none : (rs : List Run) → request b vs rs [] ≡ rs
   unfolding request
   request-none rs = refl
@@ -122,6 +124,7 @@ module _ (b : ℕ) (vs : List Verdict) where
   unfolding request
   request-more rs us u = refl
 
+  -- what runs goes on
   pub request-longer : (rs us : List Run) → length rs ≤ length (request b vs rs us)
   unfolding request
   request-longer rs [] = omega arith
@@ -131,5 +134,6 @@ module _ (b : ℕ) (vs : List Verdict) where
       let l : length rs ≤ length (cond t (rs ++ u ∷ []) rs) = cond-both t (rs ++ u ∷ []) rs (λ l. length rs ≤ length l) (λ _. omega (arith, length-push rs u)) (λ _. omega arith) in
       omega arith
 
+-- a change's runs from its p-th part on
 pub runs-more : (before : List Change) (n : ℕ) (ps : List ℕ) (p : ℕ) → p < length ps → runs-on before n (drop p ps) ≡ run-on before n (getD ps p 0) ∷ runs-on before n (drop (p + 1) ps)
 runs-more before n ps p lt = at-drop-more (runs-on before n) ps p 0 lt

@@ -1,7 +1,5 @@
 // What stays of verdicts and running runs: those that are still useful, written anew into a section of 0.
 ghost use mathlib.Core.Path.{_≡_};
-ghost use mathlib.Core.Bool.{cond};
-ghost use mathlib.Core.List.{[], _∷_, _++_};
 ghost use Prim.Native.Nat.{_+_, _*_, _≤_};
 ghost use lib.ListN.{length, replicate};
 ghost use Rattle.change.specs.Records.{written};
@@ -31,7 +29,7 @@ pub fn keep_verdicts(queue: &[u64], tally: &[u64; PARTS], out: &mut [u64]) -> us
         let good = queue[at + RUN_WIDTH] == 1;
         match find_useful(queue, tally, stored) {
             Some(u) => {
-                append_verdict(out, found, u, good);
+                run::append_verdict(out, found, u, good);
                 found += 1;
             }
             None => {}
@@ -59,18 +57,6 @@ pub fn keep_running(queue: &[u64], tally: &[u64; PARTS], out: &mut [u64]) -> usi
         }
     }
     found
-}
-
-// Writes the verdict behind the first n records of a section.
-fn append_verdict(section: &mut [u64], n: usize, u: Run, good: bool)
-    requires { ⌜ verdict-width * (n + 1) ≤ length (now section) ⌝ }
-    ensures { λ _. ⌜ now (section .exit) ≡ written (verdict-width * n) (row-of u ++ cond good 1 0 ∷ []) (now (section .entry)) ⌝ }
-{
-    run::write_verdict(
-        &mut section[VERDICT_WIDTH * n..VERDICT_WIDTH * n + VERDICT_WIDTH],
-        u,
-        good,
-    );
 }
 
 // Writes the run behind the first n records of a section.

@@ -2,31 +2,28 @@
 use mathlib.Core.Path.{_≡_, refl, sym, ap, subst, _∙_}
 use mathlib.Core.Bool.{Bool, true, false, cond}
 use mathlib.Core.List.{List, [], _∷_, _++_}
-use Prim.Native.Nat.{ℕ, zero, suc, _+_, _-_, _*_, _≤_, _<_}
+use Prim.Native.Nat.{ℕ, suc, _+_, _-_, _*_, _≤_, _<_}
 use native.Mathlib.Omega.{arith}
-use native.Mathlib.Numerals.{add-one}
 use borrow.Rule.Slice.PartMut.{putMid}
 use lib.Dec.{eqb}
-use lib.ListN.{length, getD, take, drop, set, length-append, length-drop}
+use lib.ListN.{length, getD, take, drop, set, length-drop}
 use Rattle.std.specs.Options.{mapped}
 use Rattle.std.specs.declared.option.Option.{Option}
 use Rattle.std.specs.declared.option.Option.the-variants.{Some, None}
 use Rattle.std.proofs.shelf.Lists.{length-take-le, length-push, append-nil}
-use Rattle.std.proofs.shelf.Elements.{all-append, all-push, all-take, all-drop}
+use Rattle.std.proofs.shelf.Elements.{all-push}
 use Rattle.std.specs.shelf.Lists.{All}
 use Rattle.std.proofs.shelf.Counted.{fill-by-all}
-use Rattle.change.specs.Change.{Change, place-of, dropped}
-use Rattle.change.specs.Records.{change-in, change-row, change-width, changes-in, table, written, row-out}
-use Rattle.change.proofs.Rows.{length-rows}
-use Rattle.change.proofs.Changes.{length-change-row}
-use Rattle.change.proofs.Tables.{length-table, table-push, table-out}
+use Rattle.change.specs.Change.{Change, place-of, dropped, without}
+use Rattle.change.specs.Records.{change-row, change-width, changes-in, table, written, row-out}
 use Rattle.run.specs.Layout.{most-landed, most-waiting, most-rejected, benches-at, depth-at, landed-count, waiting-count, rejected-count, verdicts-count, running-count, requested-at, landed-at, waiting-at, rejected-at, queue-length}
 use Rattle.run.specs.Numbers.{Sections, sections, whole, landed-in, waiting-in, rejected-in, changes-section, with-changes, decode, Runs-fit, Settled, Small}
 use Rattle.run.specs.State.{Queue}
+use Rattle.decide.proofs.Moves.{section-less, length-without, all-without}
 use Rattle.queue.specs.Queue.{with-waiting}
 use Rattle.queue.specs.Stages.{Roomy, Sound, Says}
 use Rattle.queue.specs.declared.counts.Counts.{Counts}
-use Rattle.run.proofs.Sections.{Sized, landed-as, waiting-as, rejected-as, put-landed, put-waiting, put-rejected, get-counter, whole-sections, sized-sections, sections-whole}
+use Rattle.run.proofs.Sections.{Sized, landed-as, waiting-as, put-landed, put-waiting, put-rejected, get-counter, whole-sections, sized-sections, sections-whole}
 use Rattle.run.proofs.Changed.{section-long, count-landed, count-waiting, count-rejected, small-changes, Fitting, runs-settled, settled-changed, decode-changed, waiting-written, config-changed, behind-changed}
 use Rattle.run.proofs.Round.{change-records, rows-section}
 
@@ -132,35 +129,26 @@ says-tidied xs ys n h is =
       },
     )
 
--- one more waits
-pub joined-waiting : (ws : List Change) (c : Change) (n : ℕ) → n ≡ length ws → n < most-waiting →
-    written (change-width * n) (change-row c) (changes-section most-waiting ws) ≡ changes-section most-waiting (ws ++ c ∷ [])
-joined-waiting ws c n e lt = table-push change-row change-width length-change-row (change-width * most-waiting) (change-width * n) ws c (ap (λ u. change-width * u) e) (omega arith)
-
 -- a change that has a place among those that wait is dropped there
-pub dropped-at : (n : ℕ) (ws : List Change) (i : ℕ) → place-of n ws ≡ Some i → (i < length ws) × (dropped n ws ≡ take i ws ++ drop (suc i) ws)
+pub dropped-at : (n : ℕ) (ws : List Change) (i : ℕ) → place-of n ws ≡ Some i → (i < length ws) × (dropped n ws ≡ without i ws)
 dropped-at n [] i e = let z : _≡_ {A = ℕ} 0 1 = cc in absurd (omega arith)
 dropped-at n (c ∷ cs) i e = go (dropped-at n cs) (eqb (c .number) n) (place-of n cs) refl e
   where
-    go : ((k : ℕ) → place-of n cs ≡ Some k → (k < length cs) × (dropped n cs ≡ take k cs ++ drop (suc k) cs)) →
-        (b : Bool) (r : Option ℕ) → place-of n cs ≡ r → cond b (Some 0) (mapped suc r) ≡ Some i → (i < suc (length cs)) × (cond b cs (c ∷ dropped n cs) ≡ take i (c ∷ cs) ++ drop (suc i) (c ∷ cs))
-    go ih true r q h = let z : 0 ≡ i = cc in subst (λ (k : ℕ). (k < suc (length cs)) × (cs ≡ take k (c ∷ cs) ++ drop (suc k) (c ∷ cs))) z (omega arith, refl)
+    go : ((k : ℕ) → place-of n cs ≡ Some k → (k < length cs) × (dropped n cs ≡ without k cs)) → (b : Bool) (r : Option ℕ) → place-of n cs ≡ r → cond b (Some 0) (mapped suc r) ≡ Some i →
+        (i < suc (length cs)) × (cond b cs (c ∷ dropped n cs) ≡ without i (c ∷ cs))
+    go ih true r q h = let z : 0 ≡ i = cc in subst (λ (k : ℕ). (k < suc (length cs)) × (cs ≡ without k (c ∷ cs))) z (omega arith, refl)
     go ih false None q h = let z : _≡_ {A = ℕ} 0 1 = cc in absurd (omega arith)
     go ih false (Some k) q h =
         let z : suc k ≡ i = cc in
-        subst (λ (k : ℕ). (k < suc (length cs)) × (c ∷ dropped n cs ≡ take k (c ∷ cs) ++ drop (suc k) (c ∷ cs))) z (omega (arith, ih k q .0), ap (λ l. c ∷ l) (ih k q .1))
+        subst (λ (k : ℕ). (k < suc (length cs)) × (c ∷ dropped n cs ≡ without k (c ∷ cs))) z (omega (arith, ih k q .0), ap (λ l. c ∷ l) (ih k q .1))
 
 -- and so it is dropped from their section
 pub dropped-waiting : (n : ℕ) (ws : List Change) (i m : ℕ) → place-of n ws ≡ Some i → m ≡ length ws → m ≤ most-waiting →
     (row-out change-width m i (changes-section most-waiting ws) ≡ changes-section most-waiting (dropped n ws)) × (m - 1 ≡ length (dropped n ws)) × (i < m)
 dropped-waiting n ws i m e count few =
-    let at = dropped-at n ws i e in
-    let d : take i ws ++ drop (i + 1) ws ≡ dropped n ws = ap (λ u. take i ws ++ drop u ws) (add-one i) ∙ sym (at .1) in
-    let l : length (dropped n ws) ≡ length (take i ws) + length (drop (suc i) ws) = ap length (at .1) ∙ length-append (take i ws) (drop (suc i) ws) in
-    let none : Change = record { number = 0; parts = [] } in (
-      ap (λ u. row-out change-width u i (changes-section most-waiting ws)) count
-          ∙ (table-out change-row change-width length-change-row (change-width * most-waiting) i ws none (at .0) (omega arith) ∙ ap (changes-section most-waiting) d),
-      omega (arith, l, length-take-le i ws (omega (arith, at .0)), length-drop (suc i) ws, at .0),
+    let at = dropped-at n ws i e in (
+      section-less most-waiting ws m i count (omega (arith, at .0)) few ∙ ap (changes-section most-waiting) (sym (at .1)),
+      omega (arith, ap length (at .1), length-without i ws (at .0)),
       omega (arith, at .0),
     )
 
@@ -209,7 +197,7 @@ fitting-fewer ys n number place h e =
       waiting = omega (arith, gone .1, w, fit .waiting);
       rejected = omega (arith, gone .1, w, fit .rejected);
       small-landed = fit .small-landed;
-      small-waiting = subst (All Small) (sym (dropped-at number ws place e .1)) (all-append Small (take place ws) (drop (suc place) ws) (all-take Small place ws (fit .small-waiting)) (all-drop Small (suc place) ws (fit .small-waiting)));
+      small-waiting = subst (All Small) (sym (dropped-at number ws place e .1)) (all-without Small place ws (fit .small-waiting));
       small-rejected = fit .small-rejected;
     }
 

@@ -1,10 +1,10 @@
 -- Laws of checks made one after another: where one refuses, its refusal is the reply; where all pass, the event is taken.
-use mathlib.Core.Path.{_≡_, sym, ap, subst, _∙_}
+use mathlib.Core.Path.{_≡_, ap, subst, _∙_}
 use mathlib.Core.List.{List}
 use Prim.Native.Nat.{ℕ}
 use Rattle.std.specs.declared.option.Option.the-variants.{Some, None}
 use Rattle.std.specs.declared.result.Result.{Result}
-use Rattle.std.specs.declared.result.Result.the-variants.{Ok, Err}
+use Rattle.std.specs.declared.result.Result.the-variants.{Err}
 use Rattle.queue.specs.Refusals.{Check, then}
 use Rattle.queue.specs.Entry.{Replies, unless-refused}
 use Rattle.queue.specs.declared.reply.Refusal.{Refusal}

@@ -2,39 +2,31 @@
 use mathlib.Core.Path.{_≡_, refl, sym, ap, subst, _∙_}
 use mathlib.Core.Bool.{Bool, true, false, cond}
 use mathlib.Core.List.{List, [], _∷_, _++_}
-use Prim.Native.Nat.{ℕ, zero, suc, _+_, _-_, _*_, _≤_, _<_, min}
+use Prim.Native.Nat.{ℕ, _+_, _-_, _*_, _≤_, _<_, min}
 use native.Mathlib.Omega.{arith}
-use native.Mathlib.Numerals.{add-one}
 use borrow.Rule.Slice.PartMut.{putMid}
 use lib.Dec.{eqb}
 use lib.ListN.{length, getD, take, drop, set, length-drop}
 use Rattle.std.specs.shelf.Lists.{All}
-use Rattle.std.proofs.shelf.Lists.{append-assoc, drop-drop, getD-append-left, getD-at, getD-take, take-append-le, length-take-le}
+use Rattle.std.proofs.shelf.Lists.{drop-drop, getD-append-left, getD-at, getD-take, take-append-le, length-take-le}
 use Rattle.std.proofs.shelf.Elements.{all-append, all-push, all-take, all-drop, all-getD, all-from-getD}
 use Rattle.change.specs.Change.{Change, line, without}
 use Rattle.change.specs.Records.{change-width, changes-in, fixed, rows, written, row-out}
 use Rattle.change.proofs.Rows.{Local, length-fixed, take-fixed, rows-take, length-rows, rows-out, rows-written, length-written, length-row-out}
 use Rattle.change.proofs.Tables.{getD-rows}
 use Rattle.run.specs.declared.run.Run as declared
-use Rattle.run.specs.Run.{Run, Verdict}
+use Rattle.run.specs.Run.{Run}
 use Rattle.run.specs.Limits.{most-following}
 use Rattle.run.specs.Records.{run-in, run-of, row-of, runs-in, run-width, verdict-in, verdict-row-of, verdicts-in, verdict-width}
 use Rattle.run.specs.Layout.{most-landed, most-waiting, most-rejected, most-verdicts, most-running, benches-at, depth-at, landed-count, waiting-count, rejected-count, verdicts-count, running-count, requested-at, landed-at, waiting-at, rejected-at, verdicts-at, running-at, queue-length}
-use Rattle.run.specs.State.{Queue}
 use Rattle.run.specs.Numbers.{Sections, sections, whole, landed-in, waiting-in, rejected-in, changes-section, with-changes, config-in, decode, Begins, Settled}
 use Rattle.run.proofs.Rows.{length-verdict-row-of, run-in-row, run-in-local, verdict-in-local}
-use Rattle.run.proofs.Sections.{Sized, verdicts-as, running-as, put-verdicts, put-running, sections-whole, long-whole}
+use Rattle.run.proofs.Sections.{Sized, verdicts-as, put-verdicts, put-running, sections-whole, long-whole}
 use Rattle.run.proofs.Round.{change-records, read-section}
 use Rattle.run.proofs.Changed.{count-landed, count-waiting, count-rejected, fitting-settled, sized-changes}
+use Rattle.decide.proofs.Moves.{without-is}
 use Rattle.queue.specs.Queue.{answered, no-run}
 use Rattle.queue.specs.Stages.{Says}
-
--- a list without its i-th is what stands before it and what stands behind it
-pub without-is : {A : Type 0} (i : ℕ) (xs : List A) → without i xs ≡ take i xs ++ drop (suc i) xs
-without-is zero [] = refl
-without-is zero (x ∷ xs) = refl
-without-is (suc i) [] = refl
-without-is (suc i) (x ∷ xs) = ap (λ l. x ∷ l) (without-is i xs)
 
 -- what the record of a verdict on a run by value says
 read-verdict-of : (landed : List Change) (r : declared.Run) (good : Bool) → verdict-in landed (verdict-row-of r good) ≡ record { run = run-of landed r; good = good }
@@ -223,7 +215,7 @@ module _
         let running : runs-in (landed-in zs) (getD zs running-count 0) (drop running-at zs) ≡ without i (decode ys .running) =
         (λ j. runs-in (landed-is j) (count-running j) (drop running-at zs))
         ∙ (running-rows (run-in L) (run-in-local L)
-        ∙ ((λ j. take i (runs-in L (m-is j) (drop running-at ys)) ++ drop (add-one i j) (runs-in L (m-is j) (drop running-at ys))) ∙ sym (without-is i (decode ys .running)))) in
+        ∙ ((λ j. take i (runs-in L (m-is j) (drop running-at ys)) ++ drop (i + 1) (runs-in L (m-is j) (drop running-at ys))) ∙ sym (without-is i (decode ys .running) (omega (arith, there, m-is, length-rows (run-in L) run-width (getD ys running-count 0) (drop running-at ys)))))) in
         let requested : getD zs requested-at 0 ≡ getD ys requested-at 0 = ap (λ l. getD l requested-at 0) zs-is in
         λ j. record { landed = landed-is j; waiting = waiting-is j; rejected = rejected-is j; verdicts = verdicts j; running = running j; requested = requested j }
 

@@ -1,8 +1,8 @@
 -- Which refusal a lent queue and an event meet first. Assumes nothing: these are definitions.
-use mathlib.Core.Bool.{Bool, true, false, cond, _||_, _&&_, not}
-use mathlib.Core.List.{List, [], _∷_, _++_}
-use Prim.Native.Nat.{ℕ, zero, suc, _+_, _*_, _-_}
-use lib.Dec.{eqb, ltb, leb}
+use mathlib.Core.Bool.{Bool, cond, _&&_, not}
+use mathlib.Core.List.{List}
+use Prim.Native.Nat.{ℕ, zero, suc, _+_, _-_}
+use lib.Dec.{ltb, leb}
 use lib.ListN.{length, getD, drop}
 use Rattle.std.specs.Options.{mapped}
 use Rattle.std.specs.declared.option.Option.{Option}
@@ -157,10 +157,7 @@ kind-check zero xs es = then (number-check xs (getD es 1 0)) (then (parts-check 
 kind-check (suc zero) xs es = then (waits-check xs (getD es 1 0)) (requests-check xs)
 kind-check (suc (suc k)) xs es = then (place-check xs (getD es 1 0)) (then (verdicts-check xs) (requests-check xs))
 
--- the kinds of event: submit 0, withdraw 1, report 2
-abbrev pub withdraw-kind : ℕ
-withdraw-kind = 1
-
+-- the kinds of event: submit 0, withdraw 1, report 2, which is the last
 abbrev pub report-kind : ℕ
 report-kind = 2
 

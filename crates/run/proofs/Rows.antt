@@ -85,14 +85,6 @@ module _ (landed : List Change) where
       let f : drop (length L) (run-of landed r .changes) ≡ F = ap (drop (length L)) e ∙ drop-at L F (length L) refl in
       λ i. r .part ∷ begins i ∷ sym n i ∷ fixed most-following (sym f i)
 
-  -- and such a run is one that its record can hold
-  pub ahead-is : (r : declared.Run) → r .begins ≡ length (line (r .part) landed) → r .follows ≤ most-following → r .follows ≤ length (r .numbers) → Ahead landed (run-of landed r)
-  ahead-is r begins few long = record {
-    following = take (r .follows) (r .numbers);
-    is = ap (λ l. l ++ take (r .follows) (r .numbers)) (ap (λ k. take k (line (r .part) landed)) begins ∙ take-length (line (r .part) landed));
-    few = omega (arith, length-take-le (r .follows) (r .numbers) long);
-  }
-
 -- a run is in the first numbers of a longer record
 pub run-in-row : (landed : List Change) (xs : List ℕ) (w : ℕ) → run-width ≤ w → w ≤ length xs → run-in landed (take w xs) ≡ run-in landed xs
 run-in-row landed xs w wide long =

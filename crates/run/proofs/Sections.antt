@@ -4,9 +4,9 @@ use mathlib.Core.List.{List, [], _∷_, _++_}
 use Prim.Native.Nat.{ℕ, _+_, _*_, _≤_, _<_}
 use native.Mathlib.Omega.{arith}
 use borrow.Rule.Slice.PartMut.{putMid}
-use lib.ListN.{length, getD, take, drop, set, length-drop, length-append, take-append-drop}
+use lib.ListN.{length, getD, take, drop, length-drop, length-append, take-append-drop}
 use lib.Seq.{take-append-add, drop-append-add}
-use Rattle.std.proofs.shelf.Lists.{length-take-le, append-assoc, take-at, drop-at, drop-drop, set-append-left, getD-take}
+use Rattle.std.proofs.shelf.Lists.{length-take-le, append-assoc, take-at, drop-at, drop-drop, getD-take}
 use Rattle.change.specs.Records.{change-width}
 use Rattle.run.specs.Records.{run-width, verdict-width}
 use Rattle.run.specs.Layout.{most-landed, most-waiting, most-rejected, most-verdicts, most-running, landed-at, waiting-at, rejected-at, verdicts-at, running-at, queue-length}
@@ -123,9 +123,6 @@ pub put-running : (s : Sections) (ys : List ℕ) → Sized s → putMid running-
 put-running s ys z = put-behind (before-running s) (s .running) _ ys running-at (run-width * most-running) (running-begins s z) (z .running)
 
 -- counters stand in the first section
-pub set-counter : (s : Sections) (k v : ℕ) → Sized s → k < landed-at → set (whole s) k v ≡ whole (counters-as (set (s .counters) k v) s)
-set-counter s k v z lt = set-append-left (s .counters) _ k v (omega (arith, z .counters))
-
 pub get-counter : (xs : List ℕ) (k : ℕ) → k < landed-at → getD (sections xs .counters) k 0 ≡ getD xs k 0
 get-counter xs k lt = getD-take landed-at xs k 0 lt
 

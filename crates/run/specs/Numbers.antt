@@ -6,7 +6,7 @@ use lib.ListN.{length, getD, take, drop, replicate}
 use Rattle.std.specs.shelf.Lists.{All}
 use Rattle.change.specs.Change.{Change, most-parts, line}
 use Rattle.change.specs.Records.{change-in, changes-in, change-row, change-width, table}
-use Rattle.run.specs.Run.{Run, Verdict}
+use Rattle.run.specs.Run.{Run}
 use Rattle.run.specs.Records.{run-in, runs-in, verdict-in, verdicts-in, run-row, verdict-row, run-width, verdict-width, Ahead, Ahead-verdict}
 use Rattle.run.specs.Layout.{most-landed, most-waiting, most-rejected, most-verdicts, most-running, benches-at, depth-at, landed-count, waiting-count, rejected-count, verdicts-count, running-count, requested-at, landed-at, waiting-at, rejected-at, verdicts-at, running-at, queue-length}
 use Rattle.run.specs.State.{Config, Queue}

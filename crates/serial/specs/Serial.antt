@@ -1,5 +1,5 @@
 -- Benches, and serial testing: the reference that the queue's decisions must equal. Assumes nothing: these are definitions.
-use mathlib.Core.Bool.{Bool, true, false, cond, _&&_}
+use mathlib.Core.Bool.{Bool, true, cond, _&&_}
 use mathlib.Core.List.{List, [], _∷_, _++_}
 use Prim.Native.Nat.{ℕ}
 use Rattle.change.specs.Change.{Change, line}

@@ -1,6 +1,6 @@
 use native.Mathlib.Omega.{arith}
-use mathlib.Core.Path.{_≡_, sym, ap, _∙_}
-use mathlib.Core.List.{[], map}
+use mathlib.Core.Path.{ap}
+use mathlib.Core.List.{map}
 use lib.ListN.{drop, length, take}
 use Rattle.std.proofs.shelf.Lists.{drop-all}
 use Rattle.change.specs.Records.{change-of}

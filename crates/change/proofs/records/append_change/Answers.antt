@@ -1,7 +1,6 @@
-use mathlib.Core.Path.{_≡_}
 use Prim.Native.Nat.{_+_, _*_}
 use native.Mathlib.Omega.{arith}
-use lib.ListN.{length, length-take}
+use lib.ListN.{length}
 use Rattle.change.specs.Records.{change-row, change-of}
 use Rattle.change.proofs.Changes.{length-change-row}
 use Rattle.change.proofs.Rows.{put-written}

@@ -1,6 +1,5 @@
 use native.Mathlib.Omega.{arith}
-use mathlib.Core.Path.{_≡_}
-use Prim.Native.Nat.{_≤_, min}
+use Prim.Native.Nat.{min}
 use lib.ListN.{getD, drop}
 use Rattle.std.proofs.shelf.Lists.{take-take}
 use Rattle.change.proofs.records.read_change.Needs as need

@@ -10,7 +10,7 @@ use Rattle.change.specs.Change.{Change}
 use Rattle.change.specs.Records.{table, written}
 use Rattle.change.proofs.Rows.{length-rows}
 use Rattle.run.specs.Run.{Run, Verdict}
-use Rattle.run.specs.Records.{run-of, run-in, verdict-in, row-of, run-row, verdict-row, run-width, verdict-width, verdicts-in, Ahead-verdict}
+use Rattle.run.specs.Records.{run-of, run-in, verdict-in, row-of, verdict-row-of, run-row, verdict-row, run-width, verdict-width, verdicts-in, Ahead-verdict}
 use Rattle.run.specs.declared.run.Run as declared
 use Rattle.run.specs.Layout.{verdicts-at, verdicts-count, most-verdicts}
 use Rattle.run.specs.Numbers.{landed-in}
@@ -24,7 +24,7 @@ use Rattle.plan.proofs.keeping.keep_verdicts.Needs.{in-Some, in-None}
 
 -- the row that is written is the verdict's
 verdict-written : (cs : List Change) (xs : List ℕ) (at : ℕ) (s u : declared.Run) → row-of u ≡ run-row cs (run-of cs s) → run-of cs s ≡ run-in cs (drop at xs) →
-    row-of u ++ cond (eqb (getD xs (at + run-width) 0) 1) 1 0 ∷ [] ≡ verdict-row cs (verdict-in cs (drop at xs))
+    verdict-row-of u (eqb (getD xs (at + run-width) 0) 1) ≡ verdict-row cs (verdict-in cs (drop at xs))
 unfolding verdict-row
 verdict-written cs xs at s u e r = λ i. (e ∙ ap (run-row cs) r) i ++ cond (eqb (sym (getD-drop at xs run-width 0) i) 1) 1 0 ∷ []
 

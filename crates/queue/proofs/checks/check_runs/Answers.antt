@@ -4,13 +4,12 @@ use Prim.Native.Nat.{ℕ}
 use native.Mathlib.Omega.{arith}
 use lib.ListN.{getD, drop}
 use Rattle.std.specs.Options.{mapped}
-use Rattle.std.specs.declared.option.Option.{Option}
-use Rattle.std.specs.declared.option.Option.the-variants.{Some, None}
+use Rattle.std.specs.declared.option.Option.the-variants.{None}
 use Rattle.change.specs.Records.{changes-in, Tallies}
 use Rattle.run.specs.Records.{run-width, verdict-width}
 use Rattle.run.specs.Layout.{landed-at, verdicts-at, running-at, verdicts-count, running-count}
 use Rattle.run.specs.Numbers.{landed-in}
-use Rattle.queue.specs.Refusals.{Check, then, overlong}
+use Rattle.queue.specs.Refusals.{then, overlong}
 use Rattle.queue.specs.declared.reply.Refusal.the-variants.{Malformed}
 use Rattle.queue.proofs.Searches.{all-begin}
 use Rattle.queue.proofs.checks.check_runs.Needs as need

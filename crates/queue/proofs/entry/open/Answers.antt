@@ -1,13 +1,11 @@
-use mathlib.Core.Path.{_≡_, sym, ap, _∙_}
-use mathlib.Core.List.{List, _++_}
-use Prim.Native.Nat.{_≤_}
-use native.Mathlib.Omega.{arith}
+use mathlib.Core.Path.{_≡_, ap, _∙_}
+use mathlib.Core.List.{_++_}
 use lib.ListN.{length, take, drop, replicate, set}
 use Rattle.std.proofs.shelf.Lists.{length-take-le}
 use Rattle.run.specs.Layout.{queue-length, benches-at, depth-at}
 use Rattle.queue.specs.declared.reply.Reply.the-variants.{Done}
 use Rattle.queue.proofs.Opened.{opened-is}
-use Rattle.queue.proofs.Replies.{first, next, stops, goes-on}
+use Rattle.queue.proofs.Replies.{next, goes-on}
 use Rattle.queue.proofs.entry.open.Needs as need
 
 pub returns : need.returns

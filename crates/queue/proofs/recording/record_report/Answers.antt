@@ -6,7 +6,6 @@ use lib.ListN.{getD, take, drop}
 use Rattle.run.specs.Records.{run-in, run-width}
 use Rattle.run.specs.Layout.{running-at}
 use Rattle.run.specs.State.{Queue}
-use Rattle.run.specs.Numbers.{decode}
 use Rattle.queue.specs.Queue.{answered, recorded, report}
 use Rattle.queue.proofs.Recorded.{says-next, says-same}
 use Rattle.queue.proofs.Reported.{says-reported}

@@ -1,4 +1,4 @@
-use mathlib.Core.Path.{_≡_, ap, _∙_}
+use mathlib.Core.Path.{ap, _∙_}
 use mathlib.Core.List.{List, [], _∷_, _++_}
 use Prim.Native.Nat.{ℕ, _+_, _*_, _≤_}
 use native.Mathlib.Omega.{arith}
@@ -8,8 +8,10 @@ use Rattle.change.specs.Change.{Change, most-parts}
 use Rattle.change.specs.Records.{change-of, change-row, change-width, written}
 use Rattle.run.specs.State.{Queue}
 use Rattle.run.specs.Numbers.{decode, waiting-in}
-use Rattle.queue.specs.Queue.{join, recorded, submit, with-waiting}
-use Rattle.queue.proofs.Recorded.{says-next, says-waiting, length-waiting, fitting-more, joined-waiting}
+use Rattle.run.specs.Layout.{most-waiting}
+use Rattle.decide.proofs.Moves.{section-more}
+use Rattle.queue.specs.Queue.{join, recorded, with-waiting}
+use Rattle.queue.proofs.Recorded.{says-next, says-waiting, length-waiting, fitting-more}
 use Rattle.queue.proofs.recording.record_submit.Needs as need
 
 pub returns : need.returns
@@ -23,6 +25,6 @@ returns c =
     let n = length-waiting ys (c .args .counts) sound in
     let small : length (x .parts) ≤ most-parts = omega (arith, length-take (c .args .c .count) (c .args .c .parts), c .args .c .few) in
     let next = says-waiting ys (c .append-change .last .section) (ws ++ x ∷ []) (c .args .counts .waiting + 1) (said .settled) (fitting-more ys (c .args .counts) x sound (c .pre .roomy) small)
-    (λ e. c .append-change .ensures ∙ (ap (written (change-width * c .args .counts .waiting) (change-row x)) e ∙ joined-waiting ws x (c .args .counts .waiting) n (c .pre .roomy .can-wait)))
+    (λ e. c .append-change .ensures ∙ (ap (written (change-width * c .args .counts .waiting) (change-row x)) e ∙ section-more most-waiting ws x (c .args .counts .waiting) n (c .pre .roomy .can-wait)))
     (omega (arith, n, length-push ws x)) in
     says-next (c .args .queue .now) ys _ _ _ _ said next (ap (λ (q : Queue). with-waiting q (join x (q .waiting))) (said .state))

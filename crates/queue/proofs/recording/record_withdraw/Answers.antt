@@ -1,14 +1,13 @@
-use mathlib.Core.Path.{_≡_, ap, _∙_}
+use mathlib.Core.Path.{ap, _∙_}
 use mathlib.Core.List.{List}
-use Prim.Native.Nat.{ℕ, _-_, _*_}
+use Prim.Native.Nat.{ℕ, _-_}
 use native.Mathlib.Omega.{arith}
 use borrow.Author.Needs.{needs}
-use Rattle.std.specs.declared.option.Option.the-variants.{Some}
-use Rattle.change.specs.Change.{Change, dropped, place-of}
+use Rattle.change.specs.Change.{Change, dropped}
 use Rattle.change.specs.Records.{change-width, row-out}
 use Rattle.run.specs.State.{Queue}
 use Rattle.run.specs.Numbers.{decode, waiting-in}
-use Rattle.queue.specs.Queue.{recorded, withdraw, with-waiting}
+use Rattle.queue.specs.Queue.{recorded, with-waiting}
 use Rattle.queue.proofs.Recorded.{says-next, says-waiting, says-same-waiting, length-waiting, fitting-fewer, dropped-waiting}
 use Rattle.queue.proofs.recording.record_withdraw.Needs as need
 

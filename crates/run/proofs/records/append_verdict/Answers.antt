@@ -1,9 +1,7 @@
-use mathlib.Core.Path.{_≡_}
 use Prim.Native.Nat.{_+_, _*_}
 use native.Mathlib.Omega.{arith}
-use lib.ListN.{length, take}
-use Rattle.change.proofs.Rows.{length-fixed, put-written}
-use Rattle.run.specs.Limits.{most-following}
+use lib.ListN.{length}
+use Rattle.change.proofs.Rows.{put-written}
 use Rattle.run.specs.Records.{row-of, verdict-row-of, verdict-width}
 use Rattle.run.proofs.Rows.{length-verdict-row-of}
 use Rattle.run.proofs.records.append_verdict.Needs as need

@@ -1,6 +1,6 @@
 use mathlib.Core.Path.{_≡_}
 use mathlib.Core.List.{map}
-use lib.ListN.{drop, take}
+use lib.ListN.{drop}
 use Rattle.change.specs.Records.{change-of}
 use Rattle.serial.specs.Serial.{passes-on}
 use Rattle.serial.proofs.landing.passes.Given as given

@@ -4,7 +4,7 @@ use native.Mathlib.Omega.{arith}
 use lib.ListN.{length, take}
 use Rattle.std.proofs.shelf.Lists.{length-take-le, drop-all}
 use Rattle.std.proofs.shelf.Tests.{lt-ltb, le-ltb}
-use Rattle.change.specs.Change.{Change, fault, fault-from, most-parts}
+use Rattle.change.specs.Change.{Change, fault, fault-from}
 use Rattle.change.specs.Records.{change-of}
 use Rattle.change.specs.declared.change.Change as declared
 use Rattle.change.proofs.Seen.{fault-later, fault-large, fault-again, fault-by-parts}

@@ -1,7 +1,6 @@
 use native.Mathlib.Omega.{arith}
 use mathlib.Core.Path.{_≡_}
 use lib.ListN.{length, take}
-use Prim.Native.Nat.{_≤_}
 use Rattle.std.proofs.shelf.Lists.{length-take-le}
 use Rattle.change.proofs.Changes.{pad-more}
 use Rattle.change.proofs.Rows.{fixed-is}
