@@ -1,6 +1,10 @@
 // Holds the queue's state against serial testing, and against what it promises of the runs that are running.
+ghost use mathlib.Core.Path.{_≡_};
+ghost use mathlib.Core.List.{map};
 ghost use Prim.Native.Nat.{_≤_, _<_};
 ghost use lib.ListN.{length};
+ghost use Rattle.change.specs.Change.{numbered};
+ghost use Rattle.change.specs.Records.{change-of};
 ghost use Rattle.run.specs.Layout.{queue-length, most-running};
 use super::bench::HashBench;
 use super::bench::HashBenchSays;
@@ -111,14 +115,17 @@ pub fn check_decided(
 fn without(heap: Global, changes: &[Change], others: &[Change]) -> Result<Vec<Change>, AllocError> {
     let mut kept = Vec::new(heap);
     for c in changes {
-        if !numbered(others, c.number) {
+        if !is_numbered(others, c.number) {
             kept.push(*c)?;
         }
     }
     Ok(kept)
 }
 
-fn numbered(changes: &[Change], number: u64) -> bool {
+// Whether one of the changes has the number.
+fn is_numbered(changes: &[Change], number: u64) -> bool
+    ensures { λ r. ⌜ r ≡ numbered number (map change-of (now (changes .entry))) ⌝ }
+{
     for c in changes {
         if c.number == number {
             return true;

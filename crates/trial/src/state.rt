@@ -1,8 +1,13 @@
 // What the lent queue says: its changes, and the runs that are running.
-ghost use Prim.Native.Nat.{_+_, _*_, _≤_, _<_};
-ghost use lib.ListN.{length};
-ghost use Rattle.change.specs.Records.{change-width};
-ghost use Rattle.run.specs.Layout.{queue-length, most-running};
+ghost use mathlib.Core.Path.{_≡_};
+ghost use mathlib.Core.List.{map};
+ghost use Prim.Native.Nat.{_+_, _*_, _≤_, _<_, min};
+ghost use lib.ListN.{drop, getD, length};
+ghost use Rattle.std.specs.Of.Vec.{vec-items};
+ghost use Rattle.std.specs.Vec.{made};
+ghost use Rattle.change.specs.Records.{change-of, change-width, changes-in};
+ghost use Rattle.run.specs.Layout.{landed-at, landed-count, most-landed, most-rejected, most-running, most-waiting, queue-length, rejected-at, rejected-count, running-count, waiting-at, waiting-count};
+ghost use Rattle.run.specs.Records.{run-of, run-width};
 use change::CHANGE_WIDTH;
 use change::Change;
 use run::LANDED_AT;
@@ -31,6 +36,7 @@ fn changes_in(
     count: usize,
 ) -> Result<Vec<Change>, AllocError>
     requires { ⌜ at + change-width * count ≤ length (now queue) ⌝ }
+    ensures { λ r. ⌜ made r (λ v. map change-of (vec-items v) ≡ changes-in count (drop at (now (queue .entry)))) ⌝ }
 {
     let mut changes = Vec::new(heap);
     for i in 0..count {
@@ -41,6 +47,7 @@ fn changes_in(
 
 pub fn landed(heap: Global, queue: &[u64]) -> Result<Vec<Change>, AllocError>
     requires { ⌜ queue-length ≤ length (now queue) ⌝ }
+    ensures { λ r. ⌜ made r (λ v. map change-of (vec-items v) ≡ changes-in (min (getD (now (queue .entry)) landed-count 0) most-landed) (drop landed-at (now (queue .entry)))) ⌝ }
 {
     let count = queue[LANDED_COUNT].min(MOST_LANDED as u64);
     changes_in(heap, queue, LANDED_AT, count as usize)
@@ -48,6 +55,7 @@ pub fn landed(heap: Global, queue: &[u64]) -> Result<Vec<Change>, AllocError>
 
 pub fn waiting(heap: Global, queue: &[u64]) -> Result<Vec<Change>, AllocError>
     requires { ⌜ queue-length ≤ length (now queue) ⌝ }
+    ensures { λ r. ⌜ made r (λ v. map change-of (vec-items v) ≡ changes-in (min (getD (now (queue .entry)) waiting-count 0) most-waiting) (drop waiting-at (now (queue .entry)))) ⌝ }
 {
     let count = queue[WAITING_COUNT].min(MOST_WAITING as u64);
     changes_in(heap, queue, WAITING_AT, count as usize)
@@ -55,6 +63,7 @@ pub fn waiting(heap: Global, queue: &[u64]) -> Result<Vec<Change>, AllocError>
 
 pub fn rejected(heap: Global, queue: &[u64]) -> Result<Vec<Change>, AllocError>
     requires { ⌜ queue-length ≤ length (now queue) ⌝ }
+    ensures { λ r. ⌜ made r (λ v. map change-of (vec-items v) ≡ changes-in (min (getD (now (queue .entry)) rejected-count 0) most-rejected) (drop rejected-at (now (queue .entry)))) ⌝ }
 {
     let count = queue[REJECTED_COUNT].min(MOST_REJECTED as u64);
     changes_in(heap, queue, REJECTED_AT, count as usize)
@@ -63,7 +72,7 @@ pub fn rejected(heap: Global, queue: &[u64]) -> Result<Vec<Change>, AllocError>
 // How many runs are running.
 pub fn running_count(queue: &[u64]) -> usize
     requires { ⌜ queue-length ≤ length (now queue) ⌝ }
-    ensures { λ r. ⌜ r ≤ most-running ⌝ }
+    ensures { λ r. ⌜ r ≡ min (getD (now (queue .entry)) running-count 0) most-running ⌝ }
 {
     queue[RUNNING_COUNT].min(MOST_RUNNING as u64) as usize
 }
@@ -72,14 +81,16 @@ pub fn running_count(queue: &[u64]) -> usize
 pub fn running_row(queue: &[u64], place: usize) -> &[u64]
     requires long { ⌜ queue-length ≤ length (now queue) ⌝ }
     requires there { ⌜ place < most-running ⌝ }
-    ensures { λ r. ⌜ 19 ≤ length (now r) ⌝ }
+    ensures { λ r. ⌜ run-width ≤ length (now r) ⌝ }
 {
     let at = RUNNING_AT + RUN_WIDTH * place;
     &queue[at..at + RUN_WIDTH]
 }
 
 // The changes of a run, written out: those that landed in its part, and those that follow.
-pub fn changes_of(heap: Global, landed: &[Change], r: Run) -> Result<Vec<u64>, AllocError> {
+pub fn changes_of(heap: Global, landed: &[Change], r: Run) -> Result<Vec<u64>, AllocError>
+    ensures { λ v. ⌜ made v (λ ns. vec-items ns ≡ run-of (map change-of (now (landed .entry))) r .changes) ⌝ }
+{
     let mut numbers = line_of(heap, landed, r.part)?;
     numbers.truncate(r.begins as usize);
     for i in 0..r.follows as usize {
