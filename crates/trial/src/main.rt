@@ -23,7 +23,8 @@ Plays random days through the merge queue and through serial testing, and compar
 every part, the rejected changes and the runs that are running. The same SEED plays the same days.
 
 Prints how many days and events were played and `all agree`, or what first differs and the day
-until then as a day file in hexadecimal digits, and ends with status 1.
+until then as a day file in hexadecimal digits, and ends with status 1. To play such a day again:
+xxd -r -p | replay --long
 
 Example: trial 7 1000";
 
