@@ -9,9 +9,17 @@ ghost use Rattle.run.specs.Layout.{queue-length, most-running};
 use super::bench::HashBench;
 use super::bench::HashBenchSays;
 use super::state;
+use change::CHANGE_WIDTH;
 use change::Change;
 use change::PART_LIMIT;
 use run::BENCHES_AT;
+use run::DEPTH_AT;
+use run::LANDED_AT;
+use run::LANDED_COUNT;
+use run::MOST_LANDED;
+use run::MOST_WAITING;
+use run::Run;
+use run::WAITING_AT;
 use run::WAITING_COUNT;
 use serial::decide_serially;
 use serial::line_of;
@@ -27,6 +35,8 @@ pub enum Difference {
     Crowded,
     // A run is running twice.
     Twice,
+    // A run is running that is not useful.
+    Useless,
     // The part's line is not that of serial testing.
     Line(u64),
     // Others are rejected than by serial testing.
@@ -41,6 +51,7 @@ pub impl fmt::Display for Difference as DifferenceDisplay {
             Difference::Idle => write!(f, "a change waits and no run is running"),
             Difference::Crowded => write!(f, "more runs are running than there are benches"),
             Difference::Twice => write!(f, "a run is running twice"),
+            Difference::Useless => write!(f, "a run is running that is not useful"),
             Difference::Line(part) => write!(
                 f,
                 "the line of part {part} is not that of serial testing"
@@ -66,6 +77,9 @@ pub fn check_running(queue: &[u64]) -> Option<Difference>
         if runs_before(queue, place) {
             return Some(Difference::Twice);
         }
+        if !is_useful(queue, place) {
+            return Some(Difference::Useless);
+        }
     }
     None
 }
@@ -81,6 +95,40 @@ fn runs_before(queue: &[u64], place: usize) -> bool
         }
     }
     false
+}
+
+// Whether the run at this place is its part's whole landed line, and then the first of those that wait and touch the part,
+// the last of them among the changes looked at.
+fn is_useful(queue: &[u64], place: usize) -> bool
+    requires long { ⌜ queue-length ≤ length (now queue) ⌝ }
+    requires there { ⌜ place < most-running ⌝ }
+{
+    let run = run::read_run(state::running_row(queue, place));
+    let landed = queue[LANDED_COUNT].min(MOST_LANDED as u64) as usize;
+    if run.begins != change::count_touching(queue, LANDED_AT, landed, run.part) {
+        return false;
+    }
+    follows_waiting(queue, run)
+}
+
+// Whether the changes that follow in the run are the first of those looked at that touch its part.
+fn follows_waiting(queue: &[u64], run: Run) -> bool
+    requires { ⌜ queue-length ≤ length (now queue) ⌝ }
+{
+    let looked = queue[WAITING_COUNT]
+        .min(queue[DEPTH_AT])
+        .min(MOST_WAITING as u64);
+    let mut met = 0usize;
+    for i in 0..looked as usize {
+        let c = change::change_at(queue, WAITING_AT + CHANGE_WIDTH * i);
+        if c.touches(run.part) {
+            if met >= run.follows as usize || run.numbers[met] != c.number {
+                return met == run.follows as usize && met > 0;
+            }
+            met += 1;
+        }
+    }
+    met == run.follows as usize && met > 0
 }
 
 // The lines on every part and the rejected changes, against serial testing of the arrivals that do not wait.
