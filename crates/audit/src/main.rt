@@ -1,4 +1,5 @@
 // Checks that every state that a part had in a main line was run, and was good.
+#![tactic(auto)]
 use audits::{Fault, Unread, Verdict};
 use change::Change;
 use std::{env, fmt, fs};

@@ -4,8 +4,8 @@ use Rattle.change.specs.Change.{Change, has, line}
 use Rattle.run.specs.Run.{Run, Verdict, same_run}
 use Rattle.run.specs.declared.known.Known.{Known}
 use Rattle.run.specs.declared.known.Known.TheVariants.{Nothing, Good, Bad}
-use Rattle.audits.specs.declared.verdict.Verdict as code-verdict
-use Rattle.audits.specs.declared.fault.Fault as code-fault
+use Rattle.audits.specs.declared.verdict.Verdict as CodeVerdict
+use Rattle.audits.specs.declared.fault.Fault as CodeFault
 use Rattle.audits.specs.declared.fault.Why.{Why}
 use Rattle.audits.specs.declared.fault.Why.TheVariants.{NeverRun, WasBad}
 
@@ -59,10 +59,10 @@ abbrev pub audited : List Verdict → List Change → Option Fault
 audited vs main = first_fault vs (states main)
 
 -- the verdict, and the fault, that the code's structs say
-abbrev pub verdict_of : code-verdict.Verdict → Verdict
+abbrev pub verdict_of : CodeVerdict.Verdict → Verdict
 verdict_of v = record { run = record { part = v.part; changes = vec_items v.changes }; good = v.good }
 
-abbrev pub fault_of : code-fault.Fault → Fault
+abbrev pub fault_of : CodeFault.Fault → Fault
 fault_of f = record { why = f.why; run = record { part = f.part; changes = vec_items f.changes } }
 
 -- every state that a part had in the main line was reported good, and never bad

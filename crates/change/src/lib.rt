@@ -1,4 +1,6 @@
 // Changes and the parts they touch, by value and as records of the lent queue.
+#![tactic(auto)]
+
 mod change;
 mod methods;
 mod records;

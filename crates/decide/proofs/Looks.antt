@@ -3,7 +3,7 @@ use Rattle.std.proofs.Common.{◌≡◌, ℕ, ◌+◌, ◌*◌, ◌<◌, ◌≤�
 use Rattle.std.proofs.lemmas.List.{at_drop_more, at_drop_all, get_or-take, length-take-le}
 use Rattle.change.specs.Change.{Change, share}
 use Rattle.change.specs.Records.{change_in, change_of, change_width}
-use Rattle.change.specs.declared.change.Change as declared-change
+use Rattle.change.specs.declared.change.Change as DeclaredChange
 use Rattle.change.proofs.Rows.{rest, rest_all, rest_more}
 use Rattle.run.specs.Layout.{verdicts_at}
 use Rattle.run.specs.Records.{run_in, run_width, verdict_in, verdict_width, verdicts_in}
@@ -52,7 +52,7 @@ module _ (cs : List Change) (number : ℕ) (ps : List ℕ) (p : ℕ) (vs : List 
       either false = refl
 
 -- the k-th verdict is looked at, for the run on the change's p-th part; those before it were not of this run
-module _ (cs : List Change) (xs : List ℕ) (n k p : ℕ) (x : declared-change.Change) (stored top : Run) (t : Bool)
+module _ (cs : List Change) (xs : List ℕ) (n k p : ℕ) (x : DeclaredChange.Change) (stored top : Run) (t : Bool)
     (long : verdicts_at + verdict_width * n ≤ length xs) (lk : k < n) (le : x.count ≤ length x.parts) (lp : p < x.count)
     (is : stored ≡ run_in cs (verdict_at xs k)) (test : t ≡ same_run stored top) (on : top ≡ run_on cs x.number (get_or x.parts p 0))
     (inv : heard top (rest (verdict_in cs) verdict_width xs verdicts_at n k) ≡ heard top (verdicts_in cs n (drop verdicts_at xs))) where
@@ -78,7 +78,7 @@ module _ (cs : List Change) (xs : List ℕ) (n k p : ℕ) (x : declared-change.C
   looks_on e = sym (heard-later cs xs n k top stored long lk is (sym test ∙ e)) ∙ inv
 
 -- no verdict was of the run on the change's p-th part
-pub looks_in_vain : (cs : List Change) (xs : List ℕ) (n k p : ℕ) (x : declared-change.Change) (top : Run) (d : Decision) → n ≤ k → x.count ≤ length x.parts → p < x.count → top ≡ run_on cs x.number (get_or x.parts p 0) →
+pub looks_in_vain : (cs : List Change) (xs : List ℕ) (n k p : ℕ) (x : DeclaredChange.Change) (top : Run) (d : Decision) → n ≤ k → x.count ≤ length x.parts → p < x.count → top ≡ run_on cs x.number (get_or x.parts p 0) →
     heard top (rest (verdict_in cs) verdict_width xs verdicts_at n k) ≡ heard top (verdicts_in cs n (drop verdicts_at xs)) →
     decision_by d (runs_on cs x.number (drop p (change_of x).parts)) (verdicts_in cs n (drop verdicts_at xs)) ≡ decision_by Wait (runs_on cs x.number (drop (p + 1) (change_of x).parts)) (verdicts_in cs n (drop verdicts_at xs))
 looks_in_vain cs xs n k p x top d all le lp on inv =
@@ -89,7 +89,7 @@ looks_in_vain cs xs n k p x top d all le lp on inv =
     (ap (λ r. heard r vs) (sym sought) ∙ (sym inv ∙ heard_none cs xs n k top all))
 
 -- all parts were looked at
-pub looked : (cs : List Change) (vs : List Verdict) (p : ℕ) (x : declared-change.Change) (d : Decision) → x.count ≤ p → decision_by d (runs_on cs x.number (drop p (change_of x).parts)) vs ≡ d
+pub looked : (cs : List Change) (vs : List Verdict) (p : ℕ) (x : DeclaredChange.Change) (d : Decision) → x.count ≤ p → decision_by d (runs_on cs x.number (drop p (change_of x).parts)) vs ≡ d
 looked cs vs p x d le = at_drop_all (λ qs. decision_by d (runs_on cs x.number qs) vs) (change_of x).parts p (omega (arith, length-take x.count x.parts))
 
 -- the decision of a change that shares a part with an earlier one, and of one that does not

@@ -1,4 +1,5 @@
 // What becomes of a change that waits.
+#![tactic(auto)]
 mod decision;
 mod passing;
 mod steps;

@@ -1,4 +1,5 @@
 // Which runs are useful, which are cancelled, and which are requested.
+#![tactic(auto)]
 mod keeping;
 mod planning;
 mod requesting;

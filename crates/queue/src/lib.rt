@@ -1,4 +1,5 @@
 // The merge queue on lent numbers: opening one, and applying an event to it.
+#![tactic(auto)]
 mod calls;
 mod checked;
 mod checks;

@@ -1,4 +1,5 @@
 // Plays a day from a file or from standard input, and prints a line for each of its events.
+#![tactic(auto)]
 mod printer;
 
 use day::{NotPlayed, UNLIMITED_CHANGES, USUAL_CHANGES};

@@ -1,4 +1,6 @@
 // Runs and verdicts, and what is known of a run.
+#![tactic(auto)]
+
 mod known;
 mod layout;
 mod methods;

@@ -2,7 +2,7 @@
 ghost use Rattle.std.specs.Prelude.{◌≡◌, [], ◌∷◌, ◌++◌, map, IfOk};
 ghost use Rattle.change.specs.Change.{line};
 ghost use Rattle.change.specs.Records.{change_of};
-ghost use Rattle.serial.specs.Serial.{passes as Passes-over, serial_landed, serial_rejected};
+ghost use Rattle.serial.specs.Serial.{passes as passes_over, serial_landed, serial_rejected};
 
 use super::bench::Bench;
 use change::Change;
@@ -35,7 +35,7 @@ pub fn passes<B: Bench>(
     landed: &[Change],
     c: Change,
 ) -> Result<bool, AllocError>
-    ensures { IfOk result (λ b. b ≡ Passes-over (says bench.now) (map change_of landed.now) (change_of c)) }
+    ensures { IfOk result (λ b. b ≡ passes_over (B.says bench.now) (map change_of landed.now) (change_of c)) }
 {
     for i in 0..c.count as usize {
         let mut numbers = line_of(heap, landed, c.parts[i])?;
@@ -53,8 +53,8 @@ pub fn decide_serially<B: Bench>(
     bench: &B,
     arrivals: &[Change],
 ) -> Result<Decided, AllocError>
-    ensures landed { IfOk result (λ d. map change_of d.landed.items ≡ serial_landed (says bench.now) [] (map change_of arrivals.now)) }
-    ensures rejected { IfOk result (λ d. map change_of d.rejected.items ≡ serial_rejected (says bench.now) [] (map change_of arrivals.now)) }
+    ensures landed { IfOk result (λ d. map change_of d.landed.items ≡ serial_landed (B.says bench.now) [] (map change_of arrivals.now)) }
+    ensures rejected { IfOk result (λ d. map change_of d.rejected.items ≡ serial_rejected (B.says bench.now) [] (map change_of arrivals.now)) }
 {
     let mut landed = Vec::new(heap);
     let mut rejected = Vec::new(heap);

@@ -1,4 +1,6 @@
 // Benches, and serial testing: changes are taken one at a time, in arrival order.
+#![tactic(auto)]
+
 mod bench;
 mod landing;
 

@@ -7,4 +7,4 @@ use Rattle.change.proofs.records.append_change.Goals as goal
 pub returns : goal.returns
 returns c =
     let l = length-change_row (change_of c.args.c) in
-    put_written (10 * c.args.n) (10 * c.args.n + 10) c.args.section.now c.write-change.new.row (change_row (change_of c.args.c)) c.write-change.ensures (omega arith)
+    put_written (10 * c.args.n) (10 * c.args.n + 10) c.args.section.now c.write_change.new.row (change_row (change_of c.args.c)) c.write_change.ensures (omega arith)

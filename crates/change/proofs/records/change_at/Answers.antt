@@ -3,4 +3,4 @@ use Rattle.change.proofs.Changes.{change_in-part}
 use Rattle.change.proofs.records.change_at.Goals as goal
 
 pub returns : goal.returns
-returns c = c.read-change.ensures ∙ change_in-part c.args.queue.now c.args.at
+returns c = c.read_change.ensures ∙ change_in-part c.args.queue.now c.args.at

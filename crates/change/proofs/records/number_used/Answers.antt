@@ -3,4 +3,4 @@ use Rattle.change.proofs.Changes.{place-numbered}
 use Rattle.change.proofs.records.number_used.Goals as goal
 
 pub returns : goal.returns
-returns c = c.is-some.ensures ∙ (ap is_some c.find-number.ensures ∙ place-numbered c.args.number _)
+returns c = c.is_some.ensures ∙ (ap is_some c.find_number.ensures ∙ place-numbered c.args.number _)

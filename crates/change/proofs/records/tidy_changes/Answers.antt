@@ -10,10 +10,10 @@ pub loop-i-preserved : goal.loop-i-preserved
 loop-i-preserved c =
     let ys : List ℕ = c.loop-i.section in
     let at : ℕ = change_width * c.loop-i.i in
-    let row = c.tidy-change.ensures ∙ ap change_row (change_in-part ys at) in
+    let row = c.tidy_change.ensures ∙ ap change_row (change_in-part ys at) in
     let l = length-change_row (change_in (drop at ys)) in (
       anew_more change_in change_row change_width length-change_row c.args.section.now c.loop-i.i ys _ (change_in (drop at ys)) c.loop-i.invariant.0 (λ i. change_in (drop at ys))
-          (put_written at (at + change_width) ys c.tidy-change.new.row (change_row (change_in (drop at ys))) row (omega (arith, l))),
+          (put_written at (at + change_width) ys c.tidy_change.new.row (change_row (change_in (drop at ys))) row (omega (arith, l))),
       search rules,
     )
 

@@ -12,7 +12,7 @@ loop-i-init c =
 
 pub loop-i-preserved : goal.loop-i-preserved
 loop-i-preserved c = (
-  λ p h. omega (arith, c.count-parts.ensures.counts p h, c.loop-i.invariant.0 p h, count-rest 10 c.args.queue.now c.args.base c.args.n c.loop-i.i p (change_of c.change-at-c.result) c.loop-i-test.true c.change-at-c.ensures),
-  λ p h. omega (arith, c.count-parts.ensures.counts p h, c.loop-i.invariant.1 p h, cond_le (has (change_of c.change-at-c.result).parts p)),
-  λ p h. omega (arith, c.count-parts.ensures.stamps p h),
+  λ p h. omega (arith, c.count_parts.ensures.counts p h, c.loop-i.invariant.0 p h, count-rest 10 c.args.queue.now c.args.base c.args.n c.loop-i.i p (change_of c.change_at-c.result) c.loop-i-test.true c.change_at-c.ensures),
+  λ p h. omega (arith, c.count_parts.ensures.counts p h, c.loop-i.invariant.1 p h, cond_le (has (change_of c.change_at-c.result).parts p)),
+  λ p h. omega (arith, c.count_parts.ensures.stamps p h),
 )

@@ -12,5 +12,5 @@ row_written (x ∷ y ∷ z ∷ xs) ys a b d e = ap (λ zs. a ∷ b ∷ d ∷ zs)
 
 pub returns : goal.returns
 returns c =
-    let w = row_written c.args.row.now c.copy-from-slice.new.self c.args.r.part c.args.r.begins c.args.r.follows (omega arith) in
+    let w = row_written c.args.row.now c.copy_from_slice.new.self c.args.r.part c.args.r.begins c.args.r.follows (omega arith) in
     cc

@@ -16,6 +16,6 @@ pub returns : goal.returns
 returns c =
     let r = c.args.r in
     let g : c.if-good.row ≡ cond c.args.good 1 0 = elim c.if-good.branch [ then-good w ↦ w.row-is ∙ ap (λ b. cond b 1 0) (sym w.if-good.true) | else-good w ↦ w.row-is ∙ ap (λ b. cond b 1 0) (sym w.if-good.false) ] in
-    let l : length c.write-run.new.row ≡ 19 = omega (arith, ap length c.write-run.ensures, length-fixed 16 (take r.follows r.numbers)) in
-    behind c.args.row.now c.write-run.new.row c.if-good.row c.requires l
-    ∙ (ap (λ l. l ++ c.if-good.row ∷ []) c.write-run.ensures ∙ ap (λ v. row_of r ++ v ∷ []) g)
+    let l : length c.write_run.new.row ≡ 19 = omega (arith, ap length c.write_run.ensures, length-fixed 16 (take r.follows r.numbers)) in
+    behind c.args.row.now c.write_run.new.row c.if-good.row c.requires l
+    ∙ (ap (λ l. l ++ c.if-good.row ∷ []) c.write_run.ensures ∙ ap (λ v. row_of r ++ v ∷ []) g)

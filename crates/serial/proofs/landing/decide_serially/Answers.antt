@@ -4,7 +4,7 @@ use Rattle.change.specs.Records.{change_of}
 use Rattle.serial.specs.Serial.{passes, serial_landed, serial_rejected}
 use Rattle.serial.proofs.Steps.{landed-pass, landed_fail, rejected-pass, rejected_fail}
 use Rattle.serial.proofs.landing.decide_serially.Goals as goal
-use Rattle.serial.proofs.landing.decide_serially.Goals.{then-branch+in-ok-push, else-branch+in-ok-push-2}
+use Rattle.serial.proofs.landing.decide_serially.Goals.{then-branch+in_ok-push, else-branch+in_ok-push-2}
 
 pub loop-c-preserved : goal.loop-c-preserved
 loop-c-preserved g c =
@@ -15,21 +15,21 @@ loop-c-preserved g c =
     let L = map change_of (vec_items c.loop-c.landed) in
     let R = map change_of (vec_items c.loop-c.rejected) in
     elim c.if-branch.branch [
-      | then-branch+in-ok-push w ↦
+      | then-branch+in_ok-push w ↦
           let a : map change_of (vec_items c.if-branch.landed) ≡ L ++ change_of x ∷ [] =
-          ap (λ v. map change_of (vec_items v)) w.landed_is ∙ (ap (map change_of) w.in-ok-push.ensures.items ∙ map_push change_of (vec_items c.loop-c.landed) x) in
-          let e = sym w.if-branch.true ∙ (c.in-ok-passes.ensures ∙ ap (λ l. passes says (map change_of l) (change_of x)) c.as-slice.ensures.value) in (
+          ap (λ v. map change_of (vec_items v)) w.landed-is ∙ (ap (map change_of) w.in_ok-push.ensures.items ∙ map_push change_of (vec_items c.loop-c.landed) x) in
+          let e = sym w.if-branch.true ∙ (c.in_ok-passes.ensures ∙ ap (λ l. passes says (map change_of l) (change_of x)) c.as_slice.ensures.value) in (
             sym (landed-pass xs i x c.loop-c-test.true c.c-item.is says L (map change_of (vec_items c.if-branch.landed)) e a) ∙ c.loop-c.invariant.0,
-            ap (λ v. map change_of (vec_items v) ++ serial_rejected says (map change_of (vec_items c.if-branch.landed)) (map change_of (drop (i + 1) xs))) w.rejected_is
+            ap (λ v. map change_of (vec_items v) ++ serial_rejected says (map change_of (vec_items c.if-branch.landed)) (map change_of (drop (i + 1) xs))) w.rejected-is
                 ∙ (ap (λ l. R ++ l) (sym (rejected-pass xs i x c.loop-c-test.true c.c-item.is says L (map change_of (vec_items c.if-branch.landed)) e a)) ∙ c.loop-c.invariant.1),
           )
-      | else-branch+in-ok-push-2 w ↦
+      | else-branch+in_ok-push-2 w ↦
           let b : map change_of (vec_items c.if-branch.rejected) ≡ R ++ change_of x ∷ [] =
-          ap (λ v. map change_of (vec_items v)) w.rejected_is ∙ (ap (map change_of) w.in-ok-push-2.ensures.items ∙ map_push change_of (vec_items c.loop-c.rejected) x) in
-          let e = sym w.if-branch.false ∙ (c.in-ok-passes.ensures ∙ ap (λ l. passes says (map change_of l) (change_of x)) c.as-slice.ensures.value) in (
-            ap (λ v. serial_landed says (map change_of (vec_items v)) (map change_of (drop (i + 1) xs))) w.landed_is
+          ap (λ v. map change_of (vec_items v)) w.rejected-is ∙ (ap (map change_of) w.in_ok-push-2.ensures.items ∙ map_push change_of (vec_items c.loop-c.rejected) x) in
+          let e = sym w.if-branch.false ∙ (c.in_ok-passes.ensures ∙ ap (λ l. passes says (map change_of l) (change_of x)) c.as_slice.ensures.value) in (
+            ap (λ v. serial_landed says (map change_of (vec_items v)) (map change_of (drop (i + 1) xs))) w.landed-is
                 ∙ (sym (landed_fail xs i x c.loop-c-test.true c.c-item.is says L e) ∙ c.loop-c.invariant.0),
-            ap (λ v. map change_of (vec_items c.if-branch.rejected) ++ serial_rejected says (map change_of (vec_items v)) (map change_of (drop (i + 1) xs))) w.landed_is
+            ap (λ v. map change_of (vec_items c.if-branch.rejected) ++ serial_rejected says (map change_of (vec_items v)) (map change_of (drop (i + 1) xs))) w.landed-is
                 ∙ (sym (rejected_fail xs i x c.loop-c-test.true c.c-item.is says L R (map change_of (vec_items c.if-branch.rejected)) e b) ∙ c.loop-c.invariant.1),
           )
     ]

@@ -12,19 +12,19 @@ by_parts c some =
     let l : length (take c.count c.parts) ≡ c.count = length-take-le c.count c.parts (omega arith) in
     sym (fault_by_parts (change_of c) (omega arith) (omega arith))
 
-pub returns-then-part-ge-PART-LIMIT : goal.returns-then-part-ge-PART-LIMIT
-returns-then-part-ge-PART-LIMIT c =
-    sym (fault_large c.args.self.parts c.args.self.count c.loop-i.i c.loop-i-test.true (omega arith) (le-ltb _ _ c.if-part-ge-PART-LIMIT.true))
+pub returns-then-part-ge-PART_LIMIT : goal.returns-then-part-ge-PART_LIMIT
+returns-then-part-ge-PART_LIMIT c =
+    sym (fault_large c.args.self.parts c.args.self.count c.loop-i.i c.loop-i-test.true (omega arith) (le-ltb _ _ c.if-part-ge-PART_LIMIT.true))
     ∙ (c.loop-i.invariant ∙ by_parts c.args.self (omega arith))
 
-pub returns-then-among-first : goal.returns-then-among-first
-returns-then-among-first c =
-    sym (fault_again c.args.self.parts c.args.self.count c.loop-i.i c.loop-i-test.true (omega arith) (sym c.if-among-first.ensures))
+pub returns-then-among_first : goal.returns-then-among_first
+returns-then-among_first c =
+    sym (fault_again c.args.self.parts c.args.self.count c.loop-i.i c.loop-i-test.true (omega arith) (sym c.if-among_first.ensures))
     ∙ (c.loop-i.invariant ∙ by_parts c.args.self (omega arith))
 
 pub loop-i-preserved : goal.loop-i-preserved
 loop-i-preserved c =
-    sym (fault-later c.args.self.parts c.args.self.count c.loop-i.i c.loop-i-test.true (omega arith) (lt-ltb _ _ c.if-part-ge-PART-LIMIT.false) (sym c.if-among-first.ensures))
+    sym (fault-later c.args.self.parts c.args.self.count c.loop-i.i c.loop-i-test.true (omega arith) (lt-ltb _ _ c.if-part-ge-PART_LIMIT.false) (sym c.if-among_first.ensures))
     ∙ c.loop-i.invariant
 
 pub returns : goal.returns

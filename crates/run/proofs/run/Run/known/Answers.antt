@@ -24,7 +24,7 @@ returns-then-good-eq1 c =
     let xs : List ℕ = c.args.queue.now in
     let cs : List Change = changes_in c.args.landed (drop landed_at xs) in
     sym (heard-good cs xs c.args.verdicts c.loop-k.k (run_of cs c.args.self) (run_of cs c.within-stored.result) (omega (arith, c.requires.long, c.requires.held)) c.loop-k-test.true
-    (compared cs xs c.loop-k.k c.args.self c.read-run.result c.within-stored.result c.requires.all c.if-verdict-self.false c.read-run.ensures.part (c.within-stored.ensures.value cs) (c.read-run.ensures.value cs)) (sym c.same-as.ensures ∙ c.if-same-as.true) c.if-good-eq1.true)
+    (compared cs xs c.loop-k.k c.args.self c.read_run.result c.within-stored.result c.requires.all c.if-verdict-self.false c.read_run.ensures.part (c.within-stored.ensures.value cs) (c.read_run.ensures.value cs)) (sym c.same_as.ensures ∙ c.if-same_as.true) c.if-good-eq1.true)
     ∙ c.loop-k.invariant
 
 pub returns-else-good-eq1 : goal.returns-else-good-eq1
@@ -32,7 +32,7 @@ returns-else-good-eq1 c =
     let xs : List ℕ = c.args.queue.now in
     let cs : List Change = changes_in c.args.landed (drop landed_at xs) in
     sym (heard-bad cs xs c.args.verdicts c.loop-k.k (run_of cs c.args.self) (run_of cs c.within-stored.result) (omega (arith, c.requires.long, c.requires.held)) c.loop-k-test.true
-    (compared cs xs c.loop-k.k c.args.self c.read-run.result c.within-stored.result c.requires.all c.if-verdict-self.false c.read-run.ensures.part (c.within-stored.ensures.value cs) (c.read-run.ensures.value cs)) (sym c.same-as.ensures ∙ c.if-same-as.true) c.if-good-eq1.false)
+    (compared cs xs c.loop-k.k c.args.self c.read_run.result c.within-stored.result c.requires.all c.if-verdict-self.false c.read_run.ensures.part (c.within-stored.ensures.value cs) (c.read_run.ensures.value cs)) (sym c.same_as.ensures ∙ c.if-same_as.true) c.if-good-eq1.false)
     ∙ c.loop-k.invariant
 
 pub loop-k-preserved-then-verdict-self : goal.loop-k-preserved-then-verdict-self
@@ -46,7 +46,7 @@ loop-k-preserved c =
     let xs : List ℕ = c.args.queue.now in
     let cs : List Change = changes_in c.args.landed (drop landed_at xs) in
     sym (heard-later cs xs c.args.verdicts c.loop-k.k (run_of cs c.args.self) (run_of cs c.within-stored.result) (omega (arith, c.requires.long, c.requires.held)) c.loop-k-test.true
-    (compared cs xs c.loop-k.k c.args.self c.read-run.result c.within-stored.result c.requires.all c.if-verdict-self.false c.read-run.ensures.part (c.within-stored.ensures.value cs) (c.read-run.ensures.value cs)) (sym c.same-as.ensures ∙ c.if-same-as.false))
+    (compared cs xs c.loop-k.k c.args.self c.read_run.result c.within-stored.result c.requires.all c.if-verdict-self.false c.read_run.ensures.part (c.within-stored.ensures.value cs) (c.read_run.ensures.value cs)) (sym c.same_as.ensures ∙ c.if-same_as.false))
     ∙ c.loop-k.invariant
 
 pub returns : goal.returns

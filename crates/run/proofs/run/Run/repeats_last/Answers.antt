@@ -42,8 +42,8 @@ returns-then-c-self c =
     let p : ℕ = c.args.part in
     let i : ℕ = c.loop-i.i in
     let n : ℕ = c.args.landed in
-    let x : Change = change_of c.change-at-c.result in
-    let e = one_before xs n i p x c.loop-i-test.true (omega arith) c.change-at-c.ensures (sym c.if-touches.ensures) in
+    let x : Change = change_of c.change_at-c.result in
+    let e = one_before xs n i p x c.loop-i-test.true (omega arith) c.change_at-c.ensures (sym c.if-touches.ensures) in
     ends_false (line p (changes_in n (drop landed_at xs))) (line p (changes_in (i - 1) (drop landed_at xs))) (from xs n p i) c.args.self.numbers x.number c.args.d (c.loop-i.left - 1)
     (line_split xs landed_at n (i - 1) p (omega arith) ∙ ap (λ l. line p (changes_in (i - 1) (drop landed_at xs)) ++ l) e) (omega (arith, c.loop-i.invariant.0, c.if-left-eq0.false)) c.requires.there c.if-c-self.true
 
@@ -53,8 +53,8 @@ loop-i-preserved-else-c-self c =
     let p : ℕ = c.args.part in
     let i : ℕ = c.loop-i.i in
     let n : ℕ = c.args.landed in
-    let x : Change = change_of c.change-at-c.result in
-    let e = one_before xs n i p x c.loop-i-test.true (omega arith) c.change-at-c.ensures (sym c.if-touches.ensures) in (
+    let x : Change = change_of c.change_at-c.result in
+    let e = one_before xs n i p x c.loop-i-test.true (omega arith) c.change_at-c.ensures (sym c.if-touches.ensures) in (
       omega (arith, ap length e, c.loop-i.invariant.0, c.if-left-eq0.false),
       ends_more (from xs n p i) (from xs n p (i - 1)) c.args.self.numbers x.number c.args.d c.loop-i.left (c.loop-i.left - 1) e
           (omega (arith, c.if-left-eq0.false)) (omega arith) c.loop-i.invariant.0 c.if-c-self.false c.loop-i.invariant.1,
@@ -66,9 +66,9 @@ loop-i-preserved c =
     let p : ℕ = c.args.part in
     let i : ℕ = c.loop-i.i in
     let n : ℕ = c.args.landed in
-    let x : Change = change_of c.change-at-c.result in
+    let x : Change = change_of c.change_at-c.result in
     let k : i - 1 + 1 ≡ i = omega arith in
-    let e : from xs n p (i - 1) ≡ from xs n p i = line_no change_width xs landed_at n (i - 1) p x (omega arith) c.change-at-c.ensures (sym c.if-touches.ensures) ∙ ap (from xs n p) k in
+    let e : from xs n p (i - 1) ≡ from xs n p i = line_no change_width xs landed_at n (i - 1) p x (omega arith) c.change_at-c.ensures (sym c.if-touches.ensures) ∙ ap (from xs n p) k in
     (omega (arith, ap length e, c.loop-i.invariant.0), c.loop-i.invariant.1 ∙ sym e)
 
 pub returns : goal.returns

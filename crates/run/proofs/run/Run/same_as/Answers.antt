@@ -13,11 +13,11 @@ use Rattle.run.proofs.run.Run.same_as.Goals as goal
 no_more : (cs : List Change) (a u : declared.Run) → a.part ≡ u.part → a.begins ≤ length (line a.part cs) → u.begins ≡ length (line u.part cs) → a.begins ≤ u.begins
 no_more cs a u part fits all = omega (arith, ap (λ p. length (line p cs)) part)
 
-pub overflow-sub-d : goal.overflow-sub-d
-overflow-sub-d c = no_more (changes_in c.args.landed (drop landed_at c.args.queue.now)) c.args.self c.args.top c.if-self-top.false c.requires.fits c.requires.all
+pub overflow_sub-d : goal.overflow_sub-d
+overflow_sub-d c = no_more (changes_in c.args.landed (drop landed_at c.args.queue.now)) c.args.self c.args.top c.if-self-top.false c.requires.fits c.requires.all
 
-pub overflow-add-d : goal.overflow-add-d
-overflow-add-d c =
+pub overflow_add-d : goal.overflow_add-d
+overflow_add-d c =
     let cs : List Change = changes_in c.args.landed (drop landed_at c.args.queue.now) in
     omega (arith, length-line_le c.args.top.part cs, length-rows change_in change_width c.args.landed (drop landed_at c.args.queue.now), c.requires.all, c.requires.few, c.args.top.few)
 
@@ -36,14 +36,14 @@ returns-then-self-d c =
     let fits = no_more cs a u c.if-self-top.false c.requires.fits c.requires.all in
     other_changes (run_of cs a) (run_of cs u) (λ e. c.if-self-d.true (omega (arith, ap length e, l, m, fits)))
 
-pub returns-then-not-goes-on-as : goal.returns-then-not-goes-on-as
-returns-then-not-goes-on-as c =
+pub returns-then-not-goes_on_as : goal.returns-then-not-goes_on_as
+returns-then-not-goes_on_as c =
     let cs : List Change = changes_in c.args.landed (drop landed_at c.args.queue.now) in
     let fits = no_more cs c.args.self c.args.top c.if-self-top.false c.requires.fits c.requires.all in
-    renewed_other cs c.args.self c.args.top c.if-self-top.false c.requires.all fits c.if-self-d.false (sym c.if-not-goes-on-as.ensures)
+    renewed_other cs c.args.self c.args.top c.if-self-top.false c.requires.all fits c.if-self-d.false (sym c.if-not-goes_on_as.ensures)
 
 pub returns : goal.returns
 returns c =
     let cs : List Change = changes_in c.args.landed (drop landed_at c.args.queue.now) in
     let fits = no_more cs c.args.self c.args.top c.if-self-top.false c.requires.fits c.requires.all in
-    renewed cs c.args.self c.args.top c.if-self-top.false c.requires.all fits c.if-self-d.false c.repeats-last.result c.repeats-last.ensures (sym c.if-not-goes-on-as.ensures)
+    renewed cs c.args.self c.args.top c.if-self-top.false c.requires.all fits c.if-self-d.false c.repeats_last.result c.repeats_last.ensures (sym c.if-not-goes_on_as.ensures)
