@@ -1,5 +1,6 @@
 // What becomes of a change that waits.
 #![tactic(auto)]
+
 mod decision;
 mod passing;
 mod steps;

@@ -1,5 +1,6 @@
 // Which runs are useful, which are cancelled, and which are requested.
 #![tactic(auto)]
+
 mod keeping;
 mod planning;
 mod requesting;

@@ -6,4 +6,4 @@ use Rattle.plan.proofs.keeping.append_run.Goals as goal
 
 pub returns : goal.returns
 returns c =
-    put_written (run_width * c.args.n) (run_width * c.args.n + run_width) c.args.section.now c.write-run.new.row (row_of c.args.u) c.write-run.ensures (omega (arith, length-fixed most_following (take c.args.u.follows c.args.u.numbers)))
+    put_written (run_width * c.args.n) (run_width * c.args.n + run_width) c.args.section.now c.write_run.new.row (row_of c.args.u) c.write_run.ensures (omega (arith, length-fixed most_following (take c.args.u.follows c.args.u.numbers)))

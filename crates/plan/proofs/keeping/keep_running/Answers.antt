@@ -18,17 +18,17 @@ use Rattle.plan.proofs.keeping.keep_running.Goals.{in-Some, in-None}
 pub loop-k-init : goal.loop-k-init
 loop-k-init c = (c.requires.zero ∙ table_none (run_row (landed_in c.args.queue.now)) (run_width * most_running), refl, omega arith)
 
-pub find-useful-requires : goal.find-useful-requires
-find-useful-requires c =
+pub find_useful-requires : goal.find_useful-requires
+find_useful-requires c =
     let xs : List ℕ = c.args.queue.now in
     let k : ℕ = c.loop-k.k in
     record {
       ready = c.requires.ready;
-      fits = stored_at (landed_in xs) xs (running_at + run_width * k) run_width c.read-run-stored.result (omega arith) c.read-run-stored.ensures.part c.read-run-stored.ensures.begins (c.requires.ready.settled.running_fit k c.loop-k-test.true);
+      fits = stored_at (landed_in xs) xs (running_at + run_width * k) run_width c.read_run-stored.result (omega arith) c.read_run-stored.ensures.part c.read_run-stored.ensures.begins (c.requires.ready.settled.running_fit k c.loop-k-test.true);
     }
 
-pub append-run-requires : goal.append-run-requires
-append-run-requires c =
+pub append_run-requires : goal.append_run-requires
+append_run-requires c =
     omega (arith, c.loop-k.invariant.2, c.requires.ready.settled.few_running, c.loop-k-test.true, ap length c.requires.zero, length-replicate {A = ℕ} (run_width * most_running) 0)
 
 pub loop-k-preserved : goal.loop-k-preserved
@@ -41,13 +41,13 @@ loop-k-preserved c =
     let lt = c.loop-k-test.true in
     let x : Run = run_in cs (drop at xs) in
     let s = c.requires.ready.settled in
-    let r : run_of cs c.read-run-stored.result ≡ x = c.read-run-stored.ensures.value cs ∙ run_in-row cs (drop at xs) (at + run_width - at) (omega arith) (omega (arith, length-drop at xs, s.long, s.few_running)) in
-    elim c.match-find-useful.branch [
+    let r : run_of cs c.read_run-stored.result ≡ x = c.read_run-stored.ensures.value cs ∙ run_in-row cs (drop at xs) (at + run_width - at) (omega arith) (omega (arith, length-drop at xs, s.long, s.few_running)) in
+    elim c.match-find_useful.branch [
       | in-Some w ↦
           let e = w.in-Some.ensures in
           let a : among x us ≡ true = ap (λ q. among q us) (sym r) ∙ e.0 in
-          let p : w.append-run.new.section ≡ written (run_width * c.loop-k.found) (run_row cs x) c.loop-k.out =
-          w.append-run.ensures ∙ ap (λ l. written (run_width * c.loop-k.found) l c.loop-k.out) (e.1 ∙ ap (run_row cs) r) in
+          let p : w.append_run.new.section ≡ written (run_width * c.loop-k.found) (run_row cs x) c.loop-k.out =
+          w.append_run.ensures ∙ ap (λ l. written (run_width * c.loop-k.found) l c.loop-k.out) (e.1 ∙ ap (run_row cs) r) in
           let y = keep_yes (run_in cs) (run_row cs) run_width (run_width * most_running) (length-run_row cs) (λ (v : Run). among v us) xs running_at k x refl a c.loop-k.out c.loop-k.found c.loop-k.invariant.0 c.loop-k.invariant.1
           (omega (arith, c.loop-k.invariant.2, s.few_running)) in
           (w.out-is ∙ (p ∙ y.0), w.found-is ∙ y.1, omega (arith, w.found-is, c.loop-k.invariant.2))

@@ -26,17 +26,17 @@ verdict_written cs xs at s u e r = λ i. (e ∙ ap (run_row cs) r) i ++ cond (eq
 pub loop-k-init : goal.loop-k-init
 loop-k-init c = (c.requires.zero ∙ table_none (verdict_row (landed_in c.args.queue.now)) (verdict_width * most_verdicts), refl, omega arith)
 
-pub find-useful-requires : goal.find-useful-requires
-find-useful-requires c =
+pub find_useful-requires : goal.find_useful-requires
+find_useful-requires c =
     let xs : List ℕ = c.args.queue.now in
     let k : ℕ = c.loop-k.k in
     record {
       ready = c.requires.ready;
-      fits = stored_at (landed_in xs) xs (verdicts_at + verdict_width * k) verdict_width c.read-run-stored.result (omega arith) c.read-run-stored.ensures.part c.read-run-stored.ensures.begins (c.requires.ready.settled.verdicts_fit k c.loop-k-test.true);
+      fits = stored_at (landed_in xs) xs (verdicts_at + verdict_width * k) verdict_width c.read_run-stored.result (omega arith) c.read_run-stored.ensures.part c.read_run-stored.ensures.begins (c.requires.ready.settled.verdicts_fit k c.loop-k-test.true);
     }
 
-pub append-verdict-requires : goal.append-verdict-requires
-append-verdict-requires c =
+pub append_verdict-requires : goal.append_verdict-requires
+append_verdict-requires c =
     omega (arith, c.loop-k.invariant.2, c.requires.ready.settled.few_verdicts, c.loop-k-test.true, ap length c.requires.zero, length-replicate {A = ℕ} (verdict_width * most_verdicts) 0)
 
 pub loop-k-preserved : goal.loop-k-preserved
@@ -49,13 +49,13 @@ loop-k-preserved c =
     let lt = c.loop-k-test.true in
     let x : Verdict = verdict_in cs (drop at xs) in
     let s = c.requires.ready.settled in
-    let r : run_of cs c.read-run-stored.result ≡ x.run = c.read-run-stored.ensures.value cs ∙ run_in-row cs (drop at xs) (at + verdict_width - at) (omega arith) (omega (arith, length-drop at xs, s.long, s.few_verdicts)) in
-    elim c.match-find-useful.branch [
+    let r : run_of cs c.read_run-stored.result ≡ x.run = c.read_run-stored.ensures.value cs ∙ run_in-row cs (drop at xs) (at + verdict_width - at) (omega arith) (omega (arith, length-drop at xs, s.long, s.few_verdicts)) in
+    elim c.match-find_useful.branch [
       | in-Some w ↦
           let e = w.in-Some.ensures in
           let a : among x.run us ≡ true = ap (λ q. among q us) (sym r) ∙ e.0 in
-          let p : w.append-verdict.new.section ≡ written (verdict_width * c.loop-k.found) (verdict_row cs x) c.loop-k.out =
-          w.append-verdict.ensures ∙ ap (λ l. written (verdict_width * c.loop-k.found) l c.loop-k.out) (verdict_written cs xs at c.read-run-stored.result w.in-Some.u e.1 r) in
+          let p : w.append_verdict.new.section ≡ written (verdict_width * c.loop-k.found) (verdict_row cs x) c.loop-k.out =
+          w.append_verdict.ensures ∙ ap (λ l. written (verdict_width * c.loop-k.found) l c.loop-k.out) (verdict_written cs xs at c.read_run-stored.result w.in-Some.u e.1 r) in
           let y = keep_yes (verdict_in cs) (verdict_row cs) verdict_width (verdict_width * most_verdicts) (length-verdict_row cs) (λ (v : Verdict). among v.run us) xs verdicts_at k x refl a c.loop-k.out c.loop-k.found c.loop-k.invariant.0 c.loop-k.invariant.1
           (omega (arith, c.loop-k.invariant.2, s.few_verdicts)) in
           (w.out-is ∙ (p ∙ y.0), w.found-is ∙ y.1, omega (arith, w.found-is, c.loop-k.invariant.2))

@@ -13,30 +13,30 @@ use Rattle.plan.proofs.Holding.{holds_read, holds_again, request_longer}
 use Rattle.plan.proofs.Storing.{planned_is, planned_fits, running-counted}
 use Rattle.plan.proofs.planning.plan_runs.Goals as goal
 
-pub keep-verdicts-known-requires : goal.keep-verdicts-known-requires
-keep-verdicts-known-requires c = record { ready = c.requires.ready; zero = refl }
+pub keep_verdicts-known-requires : goal.keep_verdicts-known-requires
+keep_verdicts-known-requires c = record { ready = c.requires.ready; zero = refl }
 
-pub keep-running-still-requires : goal.keep-running-still-requires
-keep-running-still-requires c = record { ready = c.requires.ready; zero = refl }
+pub keep_running-still-requires : goal.keep_running-still-requires
+keep_running-still-requires c = record { ready = c.requires.ready; zero = refl }
 
-pub request-useful-n-requires : goal.request-useful-n-requires
-request-useful-n-requires c =
+pub request_useful-n-requires : goal.request_useful-n-requires
+request_useful-n-requires c =
     let xs : List ℕ = c.args.queue.now in
     let cs : List Change = landed_in xs in
     record {
       ready = c.requires.ready;
-      verdicts = holds_again (verdict_records cs) most_verdicts c.keep-verdicts-known.result c.keep-verdicts-known.new.out (still_known (useful_now xs) (verdicts_now xs)) c.keep-verdicts-known.ensures;
-      running = holds_again (run-records cs) most_running c.keep-running-still.result c.keep-running-still.new.out (still_running (useful_now xs) (running_now xs)) c.keep-running-still.ensures;
+      verdicts = holds_again (verdict_records cs) most_verdicts c.keep_verdicts-known.result c.keep_verdicts-known.new.out (still_known (useful_now xs) (verdicts_now xs)) c.keep_verdicts-known.ensures;
+      running = holds_again (run-records cs) most_running c.keep_running-still.result c.keep_running-still.new.out (still_running (useful_now xs) (running_now xs)) c.keep_running-still.ensures;
     }
 
-pub overflow-sub-requested : goal.overflow-sub-requested
-overflow-sub-requested c =
+pub overflow_sub-requested : goal.overflow_sub-requested
+overflow_sub-requested c =
     let xs : List ℕ = c.args.queue.now in
     let cs : List Change = landed_in xs in
-    let rs : List ℕ = c.keep-running-still.new.out in
-    let k : ℕ = c.keep-running-still.result in
-    let l = request_longer (get_or xs benches_at 0) (verdicts_in cs c.keep-verdicts-known.result c.keep-verdicts-known.new.out) (runs_in cs k rs) (useful_now xs) in
-    omega (arith, l, c.request-useful-n.ensures.count, length-rows (run_in cs) run_width k rs)
+    let rs : List ℕ = c.keep_running-still.new.out in
+    let k : ℕ = c.keep_running-still.result in
+    let l = request_longer (get_or xs benches_at 0) (verdicts_in cs c.keep_verdicts-known.result c.keep_verdicts-known.new.out) (runs_in cs k rs) (useful_now xs) in
+    omega (arith, l, c.request_useful-n.ensures.count, length-rows (run_in cs) run_width k rs)
 
 pub returns : goal.returns
 returns c =
@@ -46,17 +46,17 @@ returns c =
     let vs : List Verdict = still_known us (verdicts_now xs) in
     let still : List Run = still_running us (running_now xs) in
     let b : ℕ = get_or xs benches_at 0 in
-    let v : ℕ = c.keep-verdicts-known.result in
-    let k : ℕ = c.keep-running-still.result in
-    let n : ℕ = c.request-useful-n.result in
-    let ys : List ℕ = c.keep-verdicts-known.new.out in
-    let rs : List ℕ = c.keep-running-still.new.out in
-    let zs : List ℕ = c.request-useful-n.new.running in
-    let hv : HoldsVerdicts cs v ys vs = c.keep-verdicts-known.ensures in
-    let hs : HoldsRuns cs k rs still = c.keep-running-still.ensures in
+    let v : ℕ = c.keep_verdicts-known.result in
+    let k : ℕ = c.keep_running-still.result in
+    let n : ℕ = c.request_useful-n.result in
+    let ys : List ℕ = c.keep_verdicts-known.new.out in
+    let rs : List ℕ = c.keep_running-still.new.out in
+    let zs : List ℕ = c.request_useful-n.new.running in
+    let hv : HoldsVerdicts cs v ys vs = c.keep_verdicts-known.ensures in
+    let hs : HoldsRuns cs k rs still = c.keep_running-still.ensures in
     let same : request b (verdicts_in cs v ys) (runs_in cs k rs) us ≡ request b vs still us =
     λ i. request b (holds_read (verdict_records cs) most_verdicts v ys vs hv i) (holds_read (run-records cs) most_running k rs still hs i) us in
-    let hr : HoldsRuns cs n zs (request b vs still us) = subst (HoldsRuns cs n zs) same c.request-useful-n.ensures in
+    let hr : HoldsRuns cs n zs (request b vs still us) = subst (HoldsRuns cs n zs) same c.request_useful-n.ensures in
     let s = c.requires.ready.settled in
     let e : c.store.new.queue ≡ encode (config_in xs) (planned (config_in xs) (decode xs)) (drop queue_length xs) = c.store.ensures ∙ planned_is xs s ys zs v n hv hr k hs.count in
     record {

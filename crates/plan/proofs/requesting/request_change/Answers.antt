@@ -28,11 +28,11 @@ returns-then-n-benches c =
     (runs_on (cs ++ first_waiting c.args.w xs) c.args.c.number (drop c.loop-p.p (change_of c.args.c).parts)) (omega (arith, h.count, c.if-n-benches.true)) in
     subst (HoldsRuns cs c.loop-p.n c.loop-p.running) (sym full ∙ c.loop-p.invariant.1) h
 
-pub useful-run-u-requires : goal.useful-run-u-requires
-useful-run-u-requires c = record { ready = c.requires.ready; near = c.requires.near }
+pub useful_run-u-requires : goal.useful_run-u-requires
+useful_run-u-requires c = record { ready = c.requires.ready; near = c.requires.near }
 
-pub request-run-n-requires : goal.request-run-n-requires
-request-run-n-requires c =
+pub request_run-n-requires : goal.request_run-n-requires
+request_run-n-requires c =
     let cs : List Change = landed_in c.args.queue.now in
     let hv = c.requires.verdicts in
     let h = c.loop-p.invariant.0 in
@@ -59,18 +59,18 @@ loop-p-preserved c =
     let m : ℕ = c.args.c.number in
     let r : Run = run_behind xs c.args.w m q in
     let b : ℕ = get_or xs benches_at 0 in
-    let u = c.useful-run-u.result in
-    let n' : ℕ = c.request-run-n.result in
-    let ys : List ℕ = c.request-run-n.new.running in
+    let u = c.useful_run-u.result in
+    let n' : ℕ = c.request_run-n.result in
+    let ys : List ℕ = c.request_run-n.new.running in
     let lt = c.loop-p-test.true in
     let g : get_or ps p 0 ≡ q = get_or-take c.args.c.count c.args.c.parts p 0 lt in
     let lp : p < length ps = omega (arith, length-take-le c.args.c.count c.args.c.parts (omega (arith, c.args.c.few, c.args.c.long))) in
     let a : Ahead cs r = ahead_on cs ws m q (omega (arith, length-line_le q ws, length-rows change_in change_width c.args.w (drop waiting_at xs), c.requires.near)) in
     let row : row_of u ≡ run_row cs r =
-    row_is cs u (c.useful-run-u.ensures.begins ∙ ap (λ p. length (line p cs)) (sym c.useful-run-u.ensures.part)) (omega (arith, u.few, u.long)) ∙ ap (run_row cs) c.useful-run-u.ensures.value in
+    row_is cs u (c.useful_run-u.ensures.begins ∙ ap (λ p. length (line p cs)) (sym c.useful_run-u.ensures.part)) (omega (arith, u.few, u.long)) ∙ ap (run_row cs) c.useful_run-u.ensures.value in
     let rs' : List Run = cond (ltb (length rs) b && lacks ks rs r) (rs ++ r ∷ []) rs in
     let h : HoldsRuns cs n' ys rs' =
-    request_one cs b c.args.known c.loop-p.n n' c.args.verdicts.now c.loop-p.running ys (row_of u) ks rs r c.requires.verdicts c.loop-p.invariant.0 a row c.requires.ready.benches c.request-run-n.ensures.row c.request-run-n.ensures.count in
+    request_one cs b c.args.known c.loop-p.n n' c.args.verdicts.now c.loop-p.running ys (row_of u) ks rs r c.requires.verdicts c.loop-p.invariant.0 a row c.requires.ready.benches c.request_run-n.ensures.row c.request_run-n.ensures.count in
     let later : List Run = runs_on (cs ++ ws) m (drop (p + 1) ps) in
     let more : runs_on (cs ++ ws) m (drop p ps) ≡ r ∷ later = runs_more (cs ++ ws) m ps p lp ∙ ap (λ u. run_on (cs ++ ws) m u ∷ later) g in (
       holds_again (run-records cs) most_running n' ys rs' h,

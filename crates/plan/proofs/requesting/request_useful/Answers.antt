@@ -21,8 +21,8 @@ loop-i-init c =
     let xs : List ℕ = c.args.queue.now in
     (c.requires.running, λ i. requested_of xs c.args.known c.args.verdicts.now c.args.n c.args.running.now (useful (sub-zero (get_or xs depth_at 0) i) (append-nil (landed_in xs) i) (waiting_in xs)))
 
-pub request-change-n-requires : goal.request-change-n-requires
-request-change-n-requires c = record {
+pub request_change-n-requires : goal.request_change-n-requires
+request_change-n-requires c = record {
   ready = c.requires.ready;
   near = omega (arith, c.min-i-end.ensures, c.requires.ready.depth, c.loop-i-test.true);
   verdicts = c.requires.verdicts;
@@ -38,14 +38,14 @@ loop-i-preserved c =
     let rs : List Run = runs_in cs c.loop-i.n c.loop-i.running in
     let i : ℕ = c.loop-i.i in
     let b : ℕ = get_or xs benches_at 0 in
-    let x : Change = change_of c.change-at-c.result in
-    let n' : ℕ = c.request-change-n.result in
-    let ys : List ℕ = c.request-change-n.new.running in
+    let x : Change = change_of c.change_at-c.result in
+    let n' : ℕ = c.request_change-n.result in
+    let ys : List ℕ = c.request_change-n.new.running in
     let lt = c.loop-i-test.true in
     let fs : List Run = runs_on (cs ++ first_waiting i xs) x.number x.parts in
     let later : List Run = useful (get_or xs depth_at 0 - (i + 1)) (cs ++ take (i + 1) ws) (drop (i + 1) ws) in
-    let h : HoldsRuns cs n' ys (request b ks rs fs) = c.request-change-n.ensures in
-    let m = ahead_more cs xs (get_or xs waiting_count 0) (get_or xs depth_at 0) i x (omega (arith, c.min-i-end.ensures)) (omega (arith, c.min-i-end.ensures)) c.change-at-c.ensures in (
+    let h : HoldsRuns cs n' ys (request b ks rs fs) = c.request_change-n.ensures in
+    let m = ahead_more cs xs (get_or xs waiting_count 0) (get_or xs depth_at 0) i x (omega (arith, c.min-i-end.ensures)) (omega (arith, c.min-i-end.ensures)) c.change_at-c.ensures in (
       holds_again (run-records cs) most_running n' ys (request b ks rs fs) h,
       ap (λ l. request b ks l later) (holds_read (run-records cs) most_running n' ys (request b ks rs fs) h)
           ∙ (sym (request-append b ks rs fs later) ∙ (ap (request b ks rs) (sym m) ∙ c.loop-i.invariant.1)),

@@ -18,10 +18,10 @@ loop-i-preserved c =
     let xs : List ℕ = c.args.queue.now in
     let p : ℕ = c.args.part in
     let i : ℕ = c.loop-i.i in
-    let x : Change = change_of c.change-at-c.result in
+    let x : Change = change_of c.change_at-c.result in
     elim c.if-touches.branch [
       | then-touches v ↦
-          let e = next_yes xs waiting_at i p x c.change-at-c.ensures (sym v.if-touches.ensures) in
+          let e = next_yes xs waiting_at i p x c.change_at-c.ensures (sym v.if-touches.ensures) in
           let s : take (c.loop-i.follows + 1) (set c.loop-i.numbers c.loop-i.follows x.number) ≡ take c.loop-i.follows c.loop-i.numbers ++ x.number ∷ [] =
           take_more_set c.loop-i.numbers c.loop-i.follows x.number (omega (arith, c.loop-i.invariant.1, c.loop-i.invariant.2, c.requires.near, c.loop-i-test.true)) in (
             (λ j. take (v.follows-is j) (v.numbers-is j)) ∙ (s ∙ (ap (λ l. l ++ x.number ∷ []) c.loop-i.invariant.0 ∙ sym e)),
@@ -29,12 +29,15 @@ loop-i-preserved c =
             ap length v.numbers-is ∙ (length-set c.loop-i.numbers c.loop-i.follows x.number ∙ c.loop-i.invariant.2),
           )
       | else-touches v ↦
-          let e = next_no xs waiting_at i p x c.change-at-c.ensures (sym v.if-touches.ensures) in
+          let e = next_no xs waiting_at i p x c.change_at-c.ensures (sym v.if-touches.ensures) in
           ((λ j. take (v.follows-is j) (v.numbers-is j)) ∙ (c.loop-i.invariant.0 ∙ sym e), omega (arith, v.follows-is, c.loop-i.invariant.1), ap length v.numbers-is ∙ c.loop-i.invariant.2)
     ]
 
-pub invariant-of-result : goal.invariant-of-result
-invariant-of-result c = (omega (arith, c.loop-i.invariant.1, c.requires.near, c.loop-i.auto.i-end), (length-set c.loop-i.numbers c.loop-i.follows c.args.number ∙ c.loop-i.invariant.2, tt))
+pub invariant_of-result : goal.invariant_of-result
+invariant_of-result c = record {
+  few = omega (arith, c.loop-i.invariant.1, c.requires.near, c.loop-i.auto.i-end);
+  long = length-set c.loop-i.numbers c.loop-i.follows c.args.number ∙ c.loop-i.invariant.2;
+}
 
 pub returns : goal.returns
 returns c =
@@ -44,7 +47,7 @@ returns c =
     let cs : List Change = landed_in xs in
     let L : List ℕ = line p cs in
     let k : c.loop-i.i ≡ c.args.n = omega arith in
-    let b : c.count-of-begins.result ≡ length L = c.count-of-begins.ensures in
+    let b : c.count_of-begins.result ≡ length L = c.count_of-begins.ensures in
     let s : take (c.loop-i.follows + 1) (set c.loop-i.numbers c.loop-i.follows n) ≡ line p (first_waiting c.args.n xs) ++ n ∷ [] =
     take_more_set c.loop-i.numbers c.loop-i.follows n (omega (arith, c.loop-i.invariant.1, c.loop-i.invariant.2, c.requires.near)) ∙ ap (λ l. l ++ n ∷ []) (c.loop-i.invariant.0 ∙ ap (λ u. line p (first_waiting u xs)) k) in
     let w = (λ i. (ap (λ u. take u L) b ∙ take-length L) i ++ s i) ∙ sym (run_on_is cs (first_waiting c.args.n xs) n p) in
