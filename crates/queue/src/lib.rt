@@ -1,5 +1,6 @@
 // The merge queue on lent numbers: opening one, and applying an event to it.
 #![tactic(auto)]
+
 mod calls;
 mod checked;
 mod checks;

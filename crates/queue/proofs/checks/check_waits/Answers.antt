@@ -3,9 +3,9 @@ use Rattle.change.specs.Change.{place_of}
 use Rattle.queue.proofs.Searches.{counted, waits_by}
 use Rattle.queue.proofs.checks.check_waits.Goals as goal
 
-pub returns-in-default : goal.returns-in-default
-returns-in-default c =
-    let e = counted (place_of c.args.number) _ _ _ None c.requires.counted.waiting c.in-default.ensures in
+pub returns-in_default : goal.returns-in_default
+returns-in_default c =
+    let e = counted (place_of c.args.number) _ _ _ None c.requires.counted.waiting c.in_default.ensures in
     record { says = sym (waits_by c.args.queue.now c.args.number None e); hands = tt }
 
 pub returns : goal.returns

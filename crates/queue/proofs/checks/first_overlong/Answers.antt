@@ -11,18 +11,18 @@ bounds-queue-at c = omega (arith, next_inside c.args.width c.args.n c.loop-turn.
 pub bounds-queue-at-in-loop-turn : goal.bounds-queue-at-in-loop-turn
 bounds-queue-at-in-loop-turn c = omega (arith, next_inside c.args.width c.args.n c.loop-turn.turn c.loop-turn.at _ c.loop-turn-test.true c.loop-turn.invariant.1)
 
-pub overflow-add-at-in-loop-turn : goal.overflow-add-at-in-loop-turn
-overflow-add-at-in-loop-turn c = omega (arith, next_inside c.args.width c.args.n c.loop-turn.turn c.loop-turn.at _ c.loop-turn-test.true c.loop-turn.invariant.1)
+pub overflow_add-at-in-loop-turn : goal.overflow_add-at-in-loop-turn
+overflow_add-at-in-loop-turn c = omega (arith, next_inside c.args.width c.args.n c.loop-turn.turn c.loop-turn.at _ c.loop-turn-test.true c.loop-turn.invariant.1)
 
 pub returns-then-queue-at : goal.returns-then-queue-at
 returns-then-queue-at c =
-    let t = ap (leb (get_or c.args.queue.now (c.loop-turn.at + 1) 0)) (sym c.count-of-held.ensures) ∙ lt-leb _ _ c.if-queue-at.true in
+    let t = ap (leb (get_or c.args.queue.now (c.loop-turn.at + 1) 0)) (sym c.count_of-held.ensures) ∙ lt-leb _ _ c.if-queue-at.true in
     sym (overlong_here (changes_in c.args.landed (drop landed_at c.args.queue.now)) c.args.width c.args.n c.loop-turn.turn c.loop-turn.at c.args.queue.now c.loop-turn-test.true t)
     ∙ c.loop-turn.invariant.0
 
 pub loop-turn-preserved : goal.loop-turn-preserved
 loop-turn-preserved c =
-    let t = ap (leb (get_or c.args.queue.now (c.loop-turn.at + 1) 0)) (sym c.count-of-held.ensures) ∙ le-leb _ _ c.if-queue-at.false in (
+    let t = ap (leb (get_or c.args.queue.now (c.loop-turn.at + 1) 0)) (sym c.count_of-held.ensures) ∙ le-leb _ _ c.if-queue-at.false in (
       sym (overlong-later (changes_in c.args.landed (drop landed_at c.args.queue.now)) c.args.width c.args.n c.loop-turn.turn c.loop-turn.at c.args.queue.now c.loop-turn-test.true t)
           ∙ c.loop-turn.invariant.0,
       left_more c.args.width c.args.n c.loop-turn.turn c.loop-turn.at _ c.loop-turn-test.true c.loop-turn.invariant.1,

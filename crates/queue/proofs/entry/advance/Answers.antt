@@ -9,8 +9,8 @@ use Rattle.queue.proofs.entry.advance.Goals as goal
 pub pass-requires : goal.pass-requires
 pass-requires c = record { settled = c.requires.ready.settled; tallied = c.requires.ready.tally }
 
-pub plan-runs-requires : goal.plan-runs-requires
-plan-runs-requires c =
+pub plan_runs-requires : goal.plan_runs-requires
+plan_runs-requires c =
     let is = c.pass.ensures.passed in
     record {
       ready = record {
@@ -25,6 +25,6 @@ plan-runs-requires c =
 pub returns : goal.returns
 returns c =
     let said = says-passed c.args.queue.now c.pass.new.queue c.pass.ensures.settled c.pass.ensures.state c.pass.ensures.passed c.pass.ensures.behind in
-    let is = c.plan-runs.ensures.is ∙ (λ i. encode (said.config i) (planned (said.config i) (said.state i)) (said.behind i)) in
-    let running = c.plan-runs.ensures.running ∙ (λ i. length (planned (said.config i) (said.state i)).running) in
+    let is = c.plan_runs.ensures.is ∙ (λ i. encode (said.config i) (planned (said.config i) (said.state i)) (said.behind i)) in
+    let running = c.plan_runs.ensures.running ∙ (λ i. length (planned (said.config i) (said.state i)).running) in
     λ i. (Done (running i), is i)

@@ -4,26 +4,26 @@ use Rattle.queue.specs.Stages.{kind_number}
 use Rattle.queue.proofs.Replies.{first, next, stops, passes}
 use Rattle.queue.proofs.entry.apply.Goals as goal
 
-pub returns-in-default : goal.returns-in-default
+pub returns-in_default : goal.returns-in_default
 unfolding stepped
-returns-in-default c = stops _ _ c.in-default.is c.refused.ensures (first _ (first _ c.in-default.ensures.says))
+returns-in_default c = stops _ _ c.in_default.is c.refused.ensures (first _ (first _ c.in_default.ensures.says))
 
-pub returns-in-default-benches : goal.returns-in-default-benches
+pub returns-in_default-benches : goal.returns-in_default-benches
 unfolding stepped
-returns-in-default-benches c =
-    stops _ _ c.in-default-benches.is c.refused-in-default-benches.ensures (first _ (next c.in-Ok.ensures.says (first _ c.in-default-benches.ensures.says)))
+returns-in_default-benches c =
+    stops _ _ c.in_default-benches.is c.refused-in_default-benches.ensures (first _ (next c.in-Ok.ensures.says (first _ c.in_default-benches.ensures.says)))
 
-pub returns-in-default-depth : goal.returns-in-default-depth
+pub returns-in_default-depth : goal.returns-in_default-depth
 unfolding stepped
-returns-in-default-depth c =
-    stops _ _ c.in-default-depth.is c.refused-in-default-depth.ensures
-    (first _ (next c.in-Ok.ensures.says (next c.in-Ok-benches.ensures.says (first _ c.in-default-depth.ensures.says))))
+returns-in_default-depth c =
+    stops _ _ c.in_default-depth.is c.refused-in_default-depth.ensures
+    (first _ (next c.in-Ok.ensures.says (next c.in-Ok-benches.ensures.says (first _ c.in_default-depth.ensures.says))))
 
-pub returns-in-default-known : goal.returns-in-default-known
+pub returns-in_default-known : goal.returns-in_default-known
 unfolding stepped
-returns-in-default-known c =
-    stops _ _ c.in-default-known.is c.refused-in-default-known.ensures
-    (first _ (next c.in-Ok.ensures.says (next c.in-Ok-benches.ensures.says (next c.in-Ok-depth.ensures.says c.in-default-known.ensures.says))))
+returns-in_default-known c =
+    stops _ _ c.in_default-known.is c.refused-in_default-known.ensures
+    (first _ (next c.in-Ok.ensures.says (next c.in-Ok-benches.ensures.says (next c.in-Ok-depth.ensures.says c.in_default-known.ensures.says))))
 
 pub returns-in-Submit : goal.returns-in-Submit
 unfolding stepped

@@ -8,30 +8,30 @@ use Rattle.queue.proofs.Advanced.{ready_recorded, requested-recorded, stepped-re
 use Rattle.queue.proofs.Replies.{first, next, stops, goes_on}
 use Rattle.queue.proofs.entry.submit.Goals as goal
 
-pub returns-in-default : goal.returns-in-default
-returns-in-default c = stops _ _ c.in-default.is c.refused.ensures (first _ c.in-default.ensures.says)
+pub returns-in_default : goal.returns-in_default
+returns-in_default c = stops _ _ c.in_default.is c.refused.ensures (first _ c.in_default.ensures.says)
 
-pub returns-in-default-formed : goal.returns-in-default-formed
-returns-in-default-formed c =
-    stops _ _ c.in-default-formed.is c.refused-in-default-formed.ensures (next c.in-Ok.ensures.says (first _ c.in-default-formed.ensures.says))
+pub returns-in_default-formed : goal.returns-in_default-formed
+returns-in_default-formed c =
+    stops _ _ c.in_default-formed.is c.refused-in_default-formed.ensures (next c.in-Ok.ensures.says (first _ c.in_default-formed.ensures.says))
 
-pub returns-in-default-room : goal.returns-in-default-room
-returns-in-default-room c =
-    stops _ _ c.in-default-room.is c.refused-in-default-room.ensures
-    (next c.in-Ok.ensures.says (next c.in-Ok-formed.ensures.says (first _ c.in-default-room.ensures.says)))
+pub returns-in_default-room : goal.returns-in_default-room
+returns-in_default-room c =
+    stops _ _ c.in_default-room.is c.refused-in_default-room.ensures
+    (next c.in-Ok.ensures.says (next c.in-Ok-formed.ensures.says (first _ c.in_default-room.ensures.says)))
 
-pub returns-in-default-requests : goal.returns-in-default-requests
-returns-in-default-requests c =
-    stops _ _ c.in-default-requests.is c.refused-in-default-requests.ensures
-    (next c.in-Ok.ensures.says (next c.in-Ok-formed.ensures.says (next c.in-Ok-room.ensures.says c.in-default-requests.ensures.says)))
+pub returns-in_default-requests : goal.returns-in_default-requests
+returns-in_default-requests c =
+    stops _ _ c.in_default-requests.is c.refused-in_default-requests.ensures
+    (next c.in-Ok.ensures.says (next c.in-Ok-formed.ensures.says (next c.in-Ok-room.ensures.says c.in_default-requests.ensures.says)))
 
-pub record-submit-requires : goal.record-submit-requires
-record-submit-requires c = record { sound = c.requires.found.sound; roomy = c.in-Ok-room.ensures.hands.1 }
+pub record_submit-requires : goal.record_submit-requires
+record_submit-requires c = record { sound = c.requires.found.sound; roomy = c.in-Ok-room.ensures.hands.1 }
 
 pub advance-requires : goal.advance-requires
 advance-requires c = record {
-  ready = ready_recorded c.args.queue.now c.record-submit.new.queue c.args.found.tally (submit (change_of c.in-Ok-formed.change)) c.record-submit.ensures c.requires.found.tallied c.requires.config.benches c.requires.config.depth;
-  few = requested-recorded c.args.queue.now c.record-submit.new.queue (submit (change_of c.in-Ok-formed.change)) c.record-submit.ensures (omega (arith, c.in-Ok-requests.ensures.hands.0, c.in-Ok-requests.ensures.hands.1));
+  ready = ready_recorded c.args.queue.now c.record_submit.new.queue c.args.found.tally (submit (change_of c.in-Ok-formed.change)) c.record_submit.ensures c.requires.found.tallied c.requires.config.benches c.requires.config.depth;
+  few = requested-recorded c.args.queue.now c.record_submit.new.queue (submit (change_of c.in-Ok-formed.change)) c.record_submit.ensures (omega (arith, c.in-Ok-requests.ensures.hands.0, c.in-Ok-requests.ensures.hands.1));
 }
 
 pub returns : goal.returns
@@ -39,5 +39,5 @@ returns c =
     goes_on _ _ _
     (next c.in-Ok.ensures.says (next c.in-Ok-formed.ensures.says (next c.in-Ok-room.ensures.says c.in-Ok-requests.ensures.says)))
     (c.advance.ensures
-    ∙ (stepped-recorded c.args.queue.now c.record-submit.new.queue (submit (change_of c.in-Ok-formed.change)) c.record-submit.ensures
+    ∙ (stepped-recorded c.args.queue.now c.record_submit.new.queue (submit (change_of c.in-Ok-formed.change)) c.record_submit.ensures
     ∙ ap (λ x. stepped_to (config_in c.args.queue.now) (step (config_in c.args.queue.now) (decode c.args.queue.now) (submit x)) (drop queue_length c.args.queue.now)) c.in-Ok-formed.ensures.hands))
