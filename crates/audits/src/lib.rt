@@ -1,5 +1,6 @@
 // Audits a main line against a log of verdicts: was every state that a part had in it run, and good?
 #![tactic(auto)]
+
 mod auditing;
 mod fault;
 mod malformed;

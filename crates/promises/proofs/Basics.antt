@@ -1,6 +1,6 @@
 -- Small laws of tests, of a part's line and of numbers. Assumes nothing.
 use Rattle.std.proofs.Common.{◌≡◌, ℕ, suc, Bool, true, false, cond, ◌&&◌, ◌||◌, eqb, List, [], ◌∷◌, ◌++◌, length, sym, refl, ap, ◌∙◌, subst, true≢false, append-nil}
-use mathlib.Core.Bool.{or_true, or_false, or_assoc, or_comm}
+use mathlib.Core.Bool.{or-true, or-false, or_assoc, or_comm}
 use Rattle.std.proofs.lemmas.Bool.{eqb-true, eq-eqb}
 use Rattle.std.specs.List.{AllByRecursion as All}
 use Rattle.change.proofs.Changes.{line-append}
@@ -76,13 +76,13 @@ numbered-append n [] ys = refl
 numbered-append n (c ∷ xs) ys = ap (◌||◌ (eqb c.number n)) (numbered-append n xs ys) ∙ sym (or_assoc (eqb c.number n) (numbered n xs) (numbered n ys))
 
 pub numbered_push : (n : ℕ) (xs : List Change) (c : Change) → numbered n (xs ++ c ∷ []) ≡ (eqb c.number n || numbered n xs)
-numbered_push n xs c = numbered-append n xs (c ∷ []) ∙ ap (◌||◌ (numbered n xs)) (or_false (eqb c.number n)) ∙ or_comm (numbered n xs) (eqb c.number n)
+numbered_push n xs c = numbered-append n xs (c ∷ []) ∙ ap (◌||◌ (numbered n xs)) (or-false (eqb c.number n)) ∙ or_comm (numbered n xs) (eqb c.number n)
 
 pub has_head : (p : ℕ) (ps : List ℕ) → has (p ∷ ps) p ≡ true
 has_head p ps = ap (λ (b : Bool). (b || has ps p)) (eq-eqb p p refl)
 
 pub has_tail : (q : ℕ) (ps : List ℕ) (p : ℕ) → has ps p ≡ true → has (q ∷ ps) p ≡ true
-has_tail q ps p e = ap (◌||◌ (eqb q p)) e ∙ or_true (eqb q p)
+has_tail q ps p e = ap (◌||◌ (eqb q p)) e ∙ or-true (eqb q p)
 
 -- what holds of each of a list
 pub all_both : {A : Type 0} (P : A → Type 0) (xs ys : List A) → All P (xs ++ ys) → All P xs × All P ys

@@ -1,6 +1,6 @@
 -- How many runs are requested: those of the changes that landed, those held, and a window for each change that is rejected or withdrawn. Assumes nothing.
 use Rattle.std.proofs.Common.{◌≡◌, ℕ, zero, suc, ◌+◌, ◌-◌, ◌*◌, ◌<◌, ◌≤◌, Bool, true, false, cond, not, ◌&&◌, ◌||◌, eqb, ◌⊎◌, List, [], ◌∷◌, ◌++◌, length, sym, refl, ap, ◌∙◌, subst, ap₂, inl, inr, true≢false, arith, length-append}
-use mathlib.Core.Bool.{or_true}
+use mathlib.Core.Bool.{or-true}
 use Rattle.std.proofs.lemmas.Bool.{eq-eqb, not-false, and_from, cases_lt}
 use Rattle.std.proofs.lemmas.List.{length_push}
 use Rattle.run.specs.declared.known.Known.{Known}
@@ -67,10 +67,10 @@ account_land n b₀ gone vs held L₀ s L W₁ c W₂ B y k = record {
   different = different-append k.runs mine k.different (different-runs L c.number c.parts (all-at Proper W₁ c W₂ k.neat.waiting).once)
       (λ r e. not_so (among r mine) (λ j. clash (k.ended r e) (ap (λ (m : ℕ). numbered m L) (sym (runs_last L c.number c.parts r j)) ∙ new)));
   ended = λ r e. numbered_push (last r) L c ∙ elim (among_cases r k.runs mine e) [
-    | inl j ↦ ap (◌||◌ (eqb c.number (last r))) (k.ended r j) ∙ or_true (eqb c.number (last r))
+    | inl j ↦ ap (◌||◌ (eqb c.number (last r))) (k.ended r j) ∙ or-true (eqb c.number (last r))
     | inr j ↦ ap (λ (b : Bool). b || numbered (last r) L) (eq-eqb c.number (last r) (runs_last L c.number c.parts r j))
   ];
-  landed_still = λ m e. numbered_push m L c ∙ ap (◌||◌ (eqb c.number m)) (k.landed_still m e) ∙ or_true (eqb c.number m);
+  landed_still = λ m e. numbered_push m L c ∙ ap (◌||◌ (eqb c.number m)) (k.landed_still m e) ∙ or-true (eqb c.number m);
   more = k.more;
   cover = λ e r h. elim (k.cover e r h) [
     | inl j ↦ inl (among-left r k.runs mine j)

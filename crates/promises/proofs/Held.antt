@@ -1,6 +1,6 @@
 -- The changes of a reachable queue are proper and have numbers of their own; the runs that are known or running are useful and different ones. Assumes nothing.
 use Rattle.std.proofs.Common.{◌≡◌, ℕ, zero, suc, ◌+◌, ◌<◌, ◌≤◌, Bool, true, false, cond, not, ◌&&◌, ◌||◌, eqb, ltb, ◌⊎◌, List, [], ◌∷◌, ◌++◌, map, length, get_or, sym, refl, ap, ◌∙◌, subst, ap₂, inl, inr, true≢false, append_assoc, append-nil, arith, length-append}
-use mathlib.Core.Bool.{or_true}
+use mathlib.Core.Bool.{or-true}
 use Rattle.std.proofs.lemmas.Bool.{eqb-true, eqb-false, ne_eqb, not-true, or_from, not-false, ltb-true, ltb-false, or_cases, and_cases}
 use Rattle.std.specs.List.{AllByRecursion as All}
 use Rattle.std.proofs.ByRecursion.{All-push}
@@ -45,7 +45,7 @@ distinct-place (w ∷ W₁) c W₂ u =
     )
 
 numbered_still : (n : ℕ) (W₁ : List Change) (c : Change) (W₂ : List Change) → numbered n (W₁ ++ W₂) ≡ true → numbered n (W₁ ++ c ∷ W₂) ≡ true
-numbered_still n W₁ c W₂ e = numbered-place n W₁ c W₂ ∙ ap (◌||◌ (eqb c.number n)) e ∙ or_true (eqb c.number n)
+numbered_still n W₁ c W₂ e = numbered-place n W₁ c W₂ ∙ ap (◌||◌ (eqb c.number n)) e ∙ or-true (eqb c.number n)
 
 -- a decision keeps changes neat
 pub neat-land : (L W₁ : List Change) (c : Change) (W₂ B : List Change) → Neat L (W₁ ++ c ∷ W₂) B → Neat (L ++ c ∷ []) (W₁ ++ W₂) B

@@ -1,6 +1,6 @@
 -- The changes that arrived, each marked as waiting, landed or rejected, and why each stands where it does. Assumes nothing.
 use Rattle.std.proofs.Common.{◌≡◌, ℕ, Bool, true, false, cond, ◌||◌, eqb, List, [], ◌∷◌, ◌++◌, length, sym, refl, ap, ◌∙◌, subst, ap₂, subst₂, append_assoc, append-nil, arith}
-use mathlib.Core.Bool.{or_true, or_assoc}
+use mathlib.Core.Bool.{or-true, or_assoc}
 use Rattle.std.proofs.lemmas.Bool.{eqb-true, eqb-false, eq-eqb, ne_eqb, or_from}
 use Rattle.std.specs.List.{AllByRecursion as All}
 use Rattle.change.proofs.Changes.{line-append}
@@ -236,7 +236,7 @@ numbered_head : (c : Change) (cs : List Change) → numbered c.number (c ∷ cs)
 numbered_head c cs = ap (λ (b : Bool). (b || numbered c.number cs)) (eq-eqb c.number c.number refl)
 
 numbered_tail : (n : ℕ) (c : Change) (cs : List Change) → numbered n cs ≡ true → numbered n (c ∷ cs) ≡ true
-numbered_tail n c cs e = ap (◌||◌ (eqb c.number n)) e ∙ or_true (eqb c.number n)
+numbered_tail n c cs e = ap (◌||◌ (eqb c.number n)) e ∙ or-true (eqb c.number n)
 
 ended_apart : (m : List Mark) (c : Change) (n : ℕ) → numbered c.number (arrived m) ≡ false → numbered n (waits m) ≡ true → eqb c.number n ≡ false
 ended_apart m c n u e = go (eqb c.number n) refl

@@ -1,6 +1,6 @@
 -- Lists of runs: which runs stand in them, and how many different ones there can be. Assumes nothing.
 use Rattle.std.proofs.Common.{◌≡◌, suc, ◌≤◌, Bool, true, false, cond, ◌&&◌, ◌||◌, ◌⊎◌, List, [], ◌∷◌, ◌++◌, length, sym, refl, ap, ◌∙◌, subst, inl, inr, true≢false, arith}
-use mathlib.Core.Bool.{and-false, or_true, or_false, or_assoc}
+use mathlib.Core.Bool.{and-false, or-true, or-false, or_assoc}
 use Rattle.std.proofs.lemmas.Bool.{or_from, or_cases}
 use Rattle.std.specs.List.{AllByRecursion as All}
 use Rattle.run.proofs.Compared.{same_run_true, same_run_refl}
@@ -21,7 +21,7 @@ pub among-left : (r : Run) (xs ys : List Run) → among r xs ≡ true → among 
 among-left r xs ys e = among-append r xs ys ∙ ap (λ (b : Bool). b || among r ys) e
 
 pub among_right : (r : Run) (xs ys : List Run) → among r ys ≡ true → among r (xs ++ ys) ≡ true
-among_right r xs ys e = among-append r xs ys ∙ ap (◌||◌ (among r xs)) e ∙ or_true (among r xs)
+among_right r xs ys e = among-append r xs ys ∙ ap (◌||◌ (among r xs)) e ∙ or-true (among r xs)
 
 pub among_cases : (r : Run) (xs ys : List Run) → among r (xs ++ ys) ≡ true → (among r xs ≡ true) ⊎ (among r ys ≡ true)
 among_cases r xs ys e = or_cases (among r xs) (among r ys) (sym (among-append r xs ys) ∙ e)
@@ -30,7 +30,7 @@ among_neither : (r : Run) (xs ys : List Run) → among r xs ≡ false → among 
 among_neither r xs ys e h = among-append r xs ys ∙ or_from (among r xs) (among r ys) e h
 
 pub among_one : (r s : Run) → among r (s ∷ []) ≡ true → r ≡ s
-among_one r s e = same_run_true r s (sym (or_false (same_run r s)) ∙ e)
+among_one r s e = same_run_true r s (sym (or-false (same_run r s)) ∙ e)
 
 pub among-place : (x : Run) (A : List Run) (r : Run) (B : List Run) → among x (A ++ r ∷ B) ≡ (same_run x r || among x (A ++ B))
 among-place x A r B = among-append x A (r ∷ B) ∙ or_swap (among x A) (same_run x r) (among x B) ∙ ap (◌||◌ (same_run x r)) (sym (among-append x A B))

@@ -1,6 +1,6 @@
 -- Every state that a part ever had in the main line was run and reported good. Assumes nothing.
 use Rattle.std.proofs.Common.{◌≡◌, ℕ, zero, suc, ◌<◌, Bool, true, false, ◌&&◌, ◌||◌, eqb, List, [], ◌∷◌, ◌++◌, length, get_or, take, sym, refl, ap, ◌∙◌, subst, ap₂, true≢false, append_assoc, append-nil, arith}
-use mathlib.Core.Bool.{or_true}
+use mathlib.Core.Bool.{or-true}
 use Rattle.std.proofs.lemmas.Bool.{eqb-true}
 use Rattle.std.proofs.ByRecursion.{All-push}
 use Rattle.change.proofs.Changes.{line-append}
@@ -61,7 +61,7 @@ said_left r (x ∷ xs) ys e = go (said_left r xs ys) (same_run r x.run && x.good
 
 said_right : (r : Run) (xs ys : List Verdict) → said_good r ys ≡ true → said_good r (xs ++ ys) ≡ true
 said_right r [] ys e = e
-said_right r (x ∷ xs) ys e = ap (◌||◌ (same_run r x.run && x.good)) (said_right r xs ys e) ∙ or_true (same_run r x.run && x.good)
+said_right r (x ∷ xs) ys e = ap (◌||◌ (same_run r x.run && x.good)) (said_right r xs ys e) ∙ or-true (same_run r x.run && x.good)
 
 -- what is known good is good on the bench, and each landed change passed on top of those before it
 record Tested (f : Bench) (q : Queue) : Type 0 where

@@ -1,6 +1,6 @@
 -- Which runs are useful: how they begin and end, how many there are, and what stays useful. Assumes nothing.
 use Rattle.std.proofs.Common.{◌≡◌, ℕ, zero, suc, ◌+◌, ◌*◌, ◌<◌, ◌≤◌, Bool, true, false, cond, not, ◌&&◌, ◌||◌, eqb, ltb, leb, ◌⊎◌, List, [], ◌∷◌, ◌++◌, length, is_some, Some, sym, refl, ap, ◌∙◌, subst, ap₂, inl, inr, true≢false, append_assoc, append-nil, arith, length-append}
-use mathlib.Core.Bool.{or_true}
+use mathlib.Core.Bool.{or-true}
 use Rattle.std.proofs.lemmas.Bool.{eqb-true, eq-eqb, not-true, leb-true, or_cases}
 use Rattle.std.specs.List.{AllByRecursion as All}
 use Rattle.change.proofs.Changes.{line-append, length-line_le}
@@ -146,7 +146,7 @@ useful-last zero cs b r e = absurd (true≢false (sym e))
 useful-last (suc n) [] b r e = absurd (true≢false (sym e))
 useful-last (suc n) (c ∷ cs) b r e = elim (among_cases r (runs_on b c.number c.parts) (useful n (b ++ c ∷ []) cs) e) [
   | inl k ↦ ap (λ (t : Bool). t || numbered (last r) cs) (eq-eqb c.number (last r) (runs_last b c.number c.parts r k))
-  | inr k ↦ ap (◌||◌ (eqb c.number (last r))) (useful-last n cs (b ++ c ∷ []) r k) ∙ or_true (eqb c.number (last r))
+  | inr k ↦ ap (◌||◌ (eqb c.number (last r))) (useful-last n cs (b ++ c ∷ []) r k) ∙ or-true (eqb c.number (last r))
 ]
 
 -- a run of a change is on one of its parts
@@ -157,7 +157,7 @@ runs-part b n (p ∷ ps) r e = go (runs-part b n ps r) (same_run r (run_on b n p
     go : (among r (runs_on b n ps) ≡ true → has ps r.part ≡ true) → (t : Bool) → same_run r (run_on b n p) ≡ t → (t || among r (runs_on b n ps)) ≡ true →
         (eqb p r.part || has ps r.part) ≡ true
     go ih true j h = ap (λ (t : Bool). t || has ps r.part) (eq-eqb p r.part (sym (ap (λ (s : Run). s.part) (same_run_true r (run_on b n p) j))))
-    go ih false j h = ap (◌||◌ (eqb p r.part)) (ih h) ∙ or_true (eqb p r.part)
+    go ih false j h = ap (◌||◌ (eqb p r.part)) (ih h) ∙ or-true (eqb p r.part)
 
 -- a change's runs are different ones, since its parts are
 pub different-runs : (b : List Change) (n : ℕ) (ps : List ℕ) → Once ps → Different (runs_on b n ps)

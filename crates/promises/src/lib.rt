@@ -1,5 +1,6 @@
 // The promises of whole days, each the contract of a function.
 #![tactic(auto)]
+
 ghost use Rattle.promises.specs.Promises.{SerialEquivalence, EveryStateTested, NeverIdle, FullyBooked, OnlyUsefulRuns, EachRunOnce, WasteBounded, DecidedWhenKnown, ConfigIndependent, DecisionsFinal, VerdictsFit, Progress};
 ghost use Rattle.promises.specs.Lent.{LentDays, LentTaken, LentSerialEquivalence, LentEveryStateTested};
 ghost use Rattle.promises.specs.Wrong.{WrongQueues};

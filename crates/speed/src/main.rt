@@ -1,5 +1,6 @@
 // Measures what an event costs on an empty and on a full queue, in sweeps of the queue's numbers.
 #![tactic(auto)]
+
 mod queues;
 
 use queues::*;

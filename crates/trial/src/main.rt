@@ -1,5 +1,6 @@
 // Plays random days through the merge queue and through serial testing, side by side.
 #![tactic(auto)]
+
 mod bench;
 mod compare;
 mod playing;

@@ -9,11 +9,11 @@ use Rattle.audits.proofs.reading.read_log.Goals as goal
 pub loop-i-init : goal.loop-i-init
 loop-i-init c =
     read_none (λ x. verdict_text (verdict_of x)) _ _ _ c.new-verdicts.ensures.items
-    (ap (λ s. lines_rest (enumerate_source s)) c.into-iter-i-iterator.ensures.into-iter-gives ∙ (ap lines_rest c.enumerate-i-items.ensures.source ∙ c.lines.ensures.rest))
+    (ap (λ s. lines_rest (enumerate_source s)) c.into_iter-i-iterator.ensures.into_iter_gives ∙ (ap lines_rest c.enumerate-i-items.ensures.source ∙ c.lines.ensures.rest))
 
 pub loop-i-preserved : goal.loop-i-preserved
 loop-i-preserved c =
-    read_more (λ x. verdict_text (verdict_of x)) _ _ _ c.in-Ok.v _ _ c.in-Some.line.now _ c.push.ensures.items (c.is-err.ensures.negation ∙ ap not c.if-is-err.false) c.in-Ok.ensures c.in-Some.ensures.steps.0.0.2 c.loop-i.invariant
+    read_more (λ x. verdict_text (verdict_of x)) _ _ _ c.in-Ok.v _ _ c.in-Some.line.now _ c.push.ensures.items (c.is_err.ensures.negation ∙ ap not c.if-is_err.false) c.in-Ok.ensures c.in-Some.ensures.steps.0.0.2 c.loop-i.invariant
 
 pub returns : goal.returns
 returns c = read_all (λ x. verdict_text (verdict_of x)) _ _ _ c.in-None.ensures.steps.0.0.0 c.loop-i.invariant

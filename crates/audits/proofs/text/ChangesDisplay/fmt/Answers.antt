@@ -10,7 +10,7 @@ loop-number-init g c = sofar_none g.W.Write.write_str_gives _ _
 pub loop-number-preserved : goal.loop-number-preserved
 loop-number-preserved g c =
     sofar_more g.W.Write.write_str_gives _ _ _ _ _ _ _ c.loop-number.invariant (text_more c.loop-number.led _ _ _ (drop_more c.args.self.now.0.now c.loop-number.number-index 0 (omega arith)))
-    (λ p. c.in-ok-write-number.ensures p refl)
+    (λ p. c.in_ok-write_number.ensures p refl)
 
 pub returns-clause-writes : goal.returns-clause-writes
 returns-clause-writes g c = λ p ok. sofar_all g.W.Write.write_str_gives _ _ _ _ c.loop-number.invariant (ap (changes_text c.loop-number.led) (drop_all c.loop-number.number-index c.args.self.now.0.now (omega arith))) p
