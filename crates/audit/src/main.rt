@@ -1,7 +1,9 @@
 // Checks that every state that a part had in a main line was run, and was good.
 #![tactic(auto)]
+
 use audits::{Fault, Unread, Verdict};
 use change::Change;
+use std::process::ExitCode;
 use std::{env, fmt, fs};
 
 const HELP: &str = "Usage: audit RESULTS MAINLINE
@@ -22,25 +24,32 @@ Example: audit tests/audit/worked.results tests/audit/worked.mainline";
 #[derive(Clone, Copy)]
 struct Failed;
 
-fn main(rt: HostRuntime) -> Result<(), Failed> {
-    let Ok(args) = env::args(&rt) else {
-        return Err(complain(&rt, "cannot read the arguments"));
+fn main(rt: HostRuntime) -> ExitCode {
+    match run(&rt) {
+        Ok(()) => ExitCode::SUCCESS,
+        Err(Failed) => ExitCode::FAILURE,
+    }
+}
+
+fn run(rt: &HostRuntime) -> Result<(), Failed> {
+    let Ok(args) = env::args(rt) else {
+        return Err(complain(rt, "cannot read the arguments"));
     };
     let mut args = args.skip(1);
     let Some(results) = args.next() else {
-        return Err(complain(&rt, "expected RESULTS and MAINLINE; see --help"));
+        return Err(complain(rt, "expected RESULTS and MAINLINE; see --help"));
     };
     if results.as_str() == "--help" {
         let _ = rt.println(HELP);
         return Ok(());
     }
     let Some(main_line) = args.next() else {
-        return Err(complain(&rt, "expected MAINLINE behind RESULTS; see --help"));
+        return Err(complain(rt, "expected MAINLINE behind RESULTS; see --help"));
     };
     if args.next().is_some() {
-        return Err(complain(&rt, "more than two arguments; see --help"));
+        return Err(complain(rt, "more than two arguments; see --help"));
     }
-    audit_files(&rt, results.as_str(), main_line.as_str())
+    audit_files(rt, results.as_str(), main_line.as_str())
 }
 
 fn audit_files(rt: &HostRuntime, results: &str, main_line: &str) -> Result<(), Failed> {

@@ -28,7 +28,7 @@ impl fmt::Display for Changes<'_> {
 
 // Writes the number of a change in a run, behind a plus if others stand before it.
 fn write_number<W: fmt::Write>(f: &mut fmt::Formatter<W>, led: bool, number: u64) -> fmt::Result
-    ensures { WritesOnOk write_str_gives f.old result ((if led then codes "+" else []) ++ decimal number) f.new }
+    ensures { WritesOnOk W.write_str_gives f.old result ((if led then codes "+" else []) ++ decimal number) f.new }
 {
     if led {
         write!(f, "+{number}")

@@ -1,5 +1,6 @@
 // The queue for programs in C or Rust: numbers and slices cross, and nothing is asked of the caller.
 #![tactic(auto)]
+
 mod answer;
 mod calls;
 

@@ -1,5 +1,6 @@
 // The day file, the day with the log of its events, and the line that is printed for an event.
 #![tactic(auto)]
+
 mod file;
 mod line;
 mod logged;

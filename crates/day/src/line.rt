@@ -95,7 +95,7 @@ fn touches(row: &[u64], part: u64) -> bool
 
 // Writes the number of a change in a run, behind a plus if others stand before it.
 fn write_number<W: fmt::Write>(f: &mut fmt::Formatter<W>, led: bool, number: u64) -> fmt::Result
-    ensures { WritesOnOk write_str_gives f.old result ((if led then codes "+" else []) ++ decimal number) f.new }
+    ensures { WritesOnOk W.write_str_gives f.old result ((if led then codes "+" else []) ++ decimal number) f.new }
 {
     if led {
         write!(f, "+{number}")
@@ -111,7 +111,7 @@ fn write_begun<W: fmt::Write>(
     part: u64,
     most: u64,
 ) -> Result<bool, fmt::Error>
-    ensures { IfOk result (λ led. Begun write_str_gives f.old (take most (line part (changes_in landed.entry.count landed.entry.numbers.now))) led f.new) }
+    ensures { IfOk result (λ led. Begun W.write_str_gives f.old (take most (line part (changes_in landed.entry.count landed.entry.numbers.now))) led f.new) }
 {
     let mut led = false;
     let mut left = most;
@@ -133,7 +133,7 @@ fn write_following<W: fmt::Write>(
     led: bool,
     numbers: &[u64],
 ) -> fmt::Result
-    ensures { WritesOnOk write_str_gives f.old result (changes_text led numbers.now) f.new }
+    ensures { WritesOnOk W.write_str_gives f.old result (changes_text led numbers.now) f.new }
 {
     let mut led = led;
     for number in numbers {

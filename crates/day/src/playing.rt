@@ -43,7 +43,7 @@ pub fn play<W: fmt::Write>(
     most: u64,
     bytes: &[u8],
 ) -> Result<(), NotPlayed>
-    ensures { Plays write_str_gives f.old result (day_text most bytes.now) f.new }
+    ensures { Plays W.write_str_gives f.old result (day_text most bytes.now) f.new }
 {
     let Some((benches, depth)) = config_read(bytes) else {
         return Ok(());
@@ -63,7 +63,7 @@ fn write_reply<W: fmt::Write>(
     reply: Reply,
     queue: &[u64],
 ) -> Result<(), NotPlayed>
-    ensures { Plays write_str_gives f.old result (printed (reply, queue.now)) f.new }
+    ensures { Plays W.write_str_gives f.old result (printed (reply, queue.now)) f.new }
 {
     let line = ReplyLine { reply, queue };
     match writeln!(f, "{line}") {
@@ -78,7 +78,7 @@ pub fn play_events<W: fmt::Write>(
     day: &mut Day,
     bytes: &[u8],
 ) -> Result<(), NotPlayed>
-    ensures text { Plays write_str_gives f.old result (lines day.old.most (numbers_of day.old) (events_of bytes.now)) f.new }
+    ensures text { Plays W.write_str_gives f.old result (lines day.old.most (numbers_of day.old) (events_of bytes.now)) f.new }
     ensures after { OnOk result (numbers_of day.new ≡ ends day.old.most (numbers_of day.old) (events_of bytes.now)) }
     ensures promised { Promised day.new }
 {

@@ -1,10 +1,12 @@
 // Plays a day from a file or from standard input, and prints a line for each of its events.
 #![tactic(auto)]
+
 mod printer;
 
 use day::{NotPlayed, UNLIMITED_CHANGES, USUAL_CHANGES};
 use printer::Printer;
 use std::io::Read;
+use std::process::ExitCode;
 use std::{env, fmt, fs};
 
 const HELP: &str = "Usage: replay [--long] [FILE]
@@ -27,26 +29,33 @@ const LONG: &str = "--long";
 #[derive(Clone, Copy)]
 struct Failed;
 
-fn main(rt: HostRuntime) -> Result<(), Failed> {
-    let Ok(args) = env::args(&rt) else {
-        return Err(complain(&rt, "cannot read the arguments"));
+fn main(rt: HostRuntime) -> ExitCode {
+    match run(&rt) {
+        Ok(()) => ExitCode::SUCCESS,
+        Err(Failed) => ExitCode::FAILURE,
+    }
+}
+
+fn run(rt: &HostRuntime) -> Result<(), Failed> {
+    let Ok(args) = env::args(rt) else {
+        return Err(complain(rt, "cannot read the arguments"));
     };
     let mut args = args.skip(1);
     let Some(first) = args.next() else {
-        return play_input(&rt, USUAL_CHANGES);
+        return play_input(rt, USUAL_CHANGES);
     };
     let second = args.next();
     let more = args.next().is_some();
     let long = first.as_str() == LONG;
     if more || !long && second.is_some() {
-        return Err(complain(&rt, "more than one file; see --help"));
+        return Err(complain(rt, "more than one file; see --help"));
     }
     if !long {
-        return play_file(&rt, USUAL_CHANGES, first.as_str());
+        return play_file(rt, USUAL_CHANGES, first.as_str());
     }
     match second {
-        Some(file) => play_file(&rt, UNLIMITED_CHANGES, file.as_str()),
-        None => play_input(&rt, UNLIMITED_CHANGES),
+        Some(file) => play_file(rt, UNLIMITED_CHANGES, file.as_str()),
+        None => play_input(rt, UNLIMITED_CHANGES),
     }
 }
 
@@ -74,7 +83,11 @@ fn play_file(rt: &HostRuntime, most: u64, arg: &str) -> Result<(), Failed> {
 
 // What was printed before a failure stays printed.
 fn play(rt: &HostRuntime, most: u64, bytes: &[u8]) -> Result<(), Failed> {
-    let mut f = fmt::Formatter::new(Printer::new(rt));
+    let printer = match Printer::new(rt) {
+        Ok(printer) => printer,
+        Err(e) => return Err(complain(rt, format_args!("cannot write the output: {e}"))),
+    };
+    let mut f = fmt::Formatter::new(printer);
     let played = day::play(&mut f, rt.alloc(), most, bytes);
     let written = f.into_inner().finish();
     if let Err(e) = written {

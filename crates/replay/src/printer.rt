@@ -22,11 +22,11 @@ impl fmt::Write for Printer {
 }
 
 impl Printer {
-    pub fn new(rt: &HostRuntime) -> Printer {
-        Printer {
-            out: BufWriter::new(rt.stdout()),
+    pub fn new(rt: &HostRuntime) -> io::Result<Printer> {
+        Ok(Printer {
+            out: BufWriter::new(rt.alloc(), rt.stdout())?,
             error: None,
-        }
+        })
     }
 
     // Writes what the buffer still holds.

@@ -133,7 +133,7 @@ fn is_booked(queue: &[u64], run: Run) -> bool
     let mut row = [0u64; RUN_WIDTH];
     run::write_run(&mut row, run);
     for place in 0..state::running_count(queue) {
-        if state::running_row(queue, place) == &row {
+        if state::running_row(queue, place) == row.as_slice() {
             return true;
         }
     }
@@ -255,6 +255,6 @@ fn sorted_numbers(heap: Global, changes: &[Change]) -> Result<Vec<u64>, AllocErr
     for c in changes {
         numbers.push(c.number)?;
     }
-    numbers.sort();
+    numbers.sort()?;
     Ok(numbers)
 }

@@ -13,6 +13,7 @@ use compare::Difference;
 use playing::play;
 use random::Random;
 use run::QUEUE_LENGTH;
+use std::process::ExitCode;
 use std::{env, fmt};
 use tally::Tally;
 
@@ -35,9 +36,16 @@ const DAYS: u64 = 2000;
 #[derive(Clone, Copy)]
 struct Failed;
 
-fn main(rt: HostRuntime) -> Result<(), Failed> {
-    let Ok(args) = env::args(&rt) else {
-        return Err(complain(&rt, "cannot read the arguments"));
+fn main(rt: HostRuntime) -> ExitCode {
+    match run(&rt) {
+        Ok(()) => ExitCode::SUCCESS,
+        Err(Failed) => ExitCode::FAILURE,
+    }
+}
+
+fn run(rt: &HostRuntime) -> Result<(), Failed> {
+    let Ok(args) = env::args(rt) else {
+        return Err(complain(rt, "cannot read the arguments"));
     };
     let mut args = args.skip(1);
     let first = args.next();
@@ -47,12 +55,12 @@ fn main(rt: HostRuntime) -> Result<(), Failed> {
             return Ok(());
         }
     }
-    let seed = number_or(&rt, first, SEED)?;
-    let days = number_or(&rt, args.next(), DAYS)?;
+    let seed = number_or(rt, first, SEED)?;
+    let days = number_or(rt, args.next(), DAYS)?;
     if args.next().is_some() {
-        return Err(complain(&rt, "more than two arguments; see --help"));
+        return Err(complain(rt, "more than two arguments; see --help"));
     }
-    play_days(&rt, seed, days)
+    play_days(rt, seed, days)
 }
 
 fn number_or(rt: &HostRuntime, arg: Option<String>, default: u64) -> Result<u64, Failed> {

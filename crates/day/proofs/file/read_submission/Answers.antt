@@ -4,5 +4,5 @@ use Rattle.day.proofs.file.read_submission.Goals as goal
 
 pub returns : goal.returns
 returns c =
-    submitted c.args.bytes.now c.copy-from-slice.new.self _ _ _ c.from-taken.ensures c.from.ensures c.number-read.ensures
-    (c.copy-from-slice.ensures.after ∙ c.padded-parts.ensures) (omega arith)
+    submitted c.args.bytes.now c.copy_from_slice.new.self _ _ _ c.from-taken.ensures c.from.ensures c.number_read.ensures
+    (c.copy_from_slice.ensures.after ∙ c.padded-parts.ensures) (omega arith)

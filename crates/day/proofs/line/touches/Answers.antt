@@ -9,7 +9,7 @@ returns-then-touched-part c =
     let i = c.loop-touched.touched-index in
     let p = c.args.part in
     let parts = c.first-parts.result.now in
-    let whole = c.first-parts.ensures ∙ (λ j. take ((c.min-count.ensures ∙ ap (λ (u : ℕ). min u most_parts) c.number-at.ensures) j) (c.past.ensures j)) in
+    let whole = c.first-parts.ensures ∙ (λ j. take ((c.min-count.ensures ∙ ap (λ (u : ℕ). min u most_parts) c.number_at.ensures) j) (c.past.ensures j)) in
     let here = has_here parts i p (omega arith) ∙ ap (λ (b : Bool). b || has (drop (i + 1) parts) p) (eq-eqb _ _ c.if-touched-part.true) in
     sym (ap (λ (l : List ℕ). has l p) (sym whole) ∙ sym c.loop-touched.invariant ∙ here)
 
@@ -26,5 +26,5 @@ returns c =
     let i = c.loop-touched.touched-index in
     let p = c.args.part in
     let parts = c.first-parts.result.now in
-    let whole = c.first-parts.ensures ∙ (λ j. take ((c.min-count.ensures ∙ ap (λ (u : ℕ). min u most_parts) c.number-at.ensures) j) (c.past.ensures j)) in
+    let whole = c.first-parts.ensures ∙ (λ j. take ((c.min-count.ensures ∙ ap (λ (u : ℕ). min u most_parts) c.number_at.ensures) j) (c.past.ensures j)) in
     sym (ap (λ (l : List ℕ). has l p) (sym whole) ∙ sym c.loop-touched.invariant ∙ ap (λ (l : List ℕ). has l p) (drop_all i parts (omega arith)))

@@ -8,7 +8,7 @@ use Rattle.day.proofs.line.write_following.Goals as goal
 pub loop-number-preserved : goal.loop-number-preserved
 loop-number-preserved g c =
     sofar_more g.W.Write.write_str_gives _ _ _ _ _ _ _ c.loop-number.invariant (text_more c.loop-number.led _ _ _ (drop_more c.args.numbers.now c.loop-number.number-index 0 (omega arith)))
-    (λ p. c.in-ok-write-number.ensures p refl)
+    (λ p. c.in_ok-write_number.ensures p refl)
 
 pub returns : goal.returns
 returns g c = λ p ok. sofar_all g.W.Write.write_str_gives _ _ _ _ c.loop-number.invariant (ap (changes_text c.loop-number.led) (drop_all c.loop-number.number-index c.args.numbers.now (omega arith))) p

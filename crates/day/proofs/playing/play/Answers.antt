@@ -7,9 +7,9 @@ use Rattle.day.specs.declared.logged.NotOpened.{NotOpened}
 use Rattle.day.proofs.Days.{text_none, text-done, text_refused}
 use Rattle.day.proofs.playing.play.Goals as goal
 
-pub returns-in-default : goal.returns-in-default
-returns-in-default g c p ok =
-    let none = sym c.in-default.ensures in
+pub returns-in_default : goal.returns-in_default
+returns-in_default g c p ok =
+    let none = sym c.in_default.ensures in
     has_written_of_eq g.W.Write.write_str_gives _ _ _ _ (sym (text_none c.args.most c.args.bytes.now none)) (record { wrote = writes_in_calls_nil g.W.Write.write_str_gives _; plain = p })
 
 pub returns-in-Ok : goal.returns-in-Ok
@@ -22,10 +22,10 @@ returns-in-Ok g c p ok =
     let whole = text-done most bs t (sym c.in-Some.ensures) d.numbers.items begins.5 begins.4 in
     has_written_of_eq g.W.Write.write_str_gives _ _ _ _
     (ap (λ (m : ℕ). lines m d.numbers.items (events_of c.past.result.now)) begins.2 ∙ ap (λ (l : List ℕ). lines most d.numbers.items (events_of l)) c.past.ensures ∙ sym whole)
-    (c.play-events.ensures.text p ok)
+    (c.play_events.ensures.text p ok)
 
 pub returns-in-Refused : goal.returns-in-Refused
 returns-in-Refused g c p ok =
     let t : ℕ × ℕ = (c.in-Some.benches, c.in-Some.depth) in
     let why = subst (λ (w : NotOpened). Begins t.0 t.1 c.args.most (Err w)) c.in-Refused.is c.in-Err.ensures in
-    has_written_of_eq g.W.Write.write_str_gives _ _ _ _ (sym (text_refused c.args.most c.args.bytes.now t (sym c.in-Some.ensures) c.in-Refused.refusal why)) (c.write-reply.ensures p ok)
+    has_written_of_eq g.W.Write.write_str_gives _ _ _ _ (sym (text_refused c.args.most c.args.bytes.now t (sym c.in-Some.ensures) c.in-Refused.refusal why)) (c.write_reply.ensures p ok)

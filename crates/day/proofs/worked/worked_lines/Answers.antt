@@ -34,4 +34,4 @@ lines_are (n ∷ ns) = λ j. line_is (replayed two_three empty (take n worked)) 
 
 pub returns : goal.returns
 unfolding digits
-returns c = lines_are (2 ∷ 5 ∷ 6 ∷ 8 ∷ 9 ∷ 10 ∷ 11 ∷ []) ∙ ap (map row_text) c.worked-day.ensures
+returns c = lines_are (2 ∷ 5 ∷ 6 ∷ 8 ∷ 9 ∷ 10 ∷ 11 ∷ []) ∙ ap (map row_text) c.worked_day.ensures

@@ -14,12 +14,12 @@ loop-i-preserved c =
     let q = c.args.queue.now in
     let i = c.loop-i.i in
     let items = vec_items c.loop-i.changes in
-    let x = c.change-at.result in
+    let x = c.change_at.result in
     let later = rest change_in 10 q c.args.at c.args.count (i + 1) in
-    ap (λ l. map change_of l ++ later) c.in-ok-push.ensures.items
+    ap (λ l. map change_of l ++ later) c.in_ok-push.ensures.items
     ∙ (ap (λ l. l ++ later) (map_push change_of items x)
     ∙ (append_assoc (map change_of items) (change_of x ∷ []) later
-    ∙ (ap (λ y. map change_of items ++ (y ∷ later)) c.change-at.ensures
+    ∙ (ap (λ y. map change_of items ++ (y ∷ later)) c.change_at.ensures
     ∙ (ap (λ l. map change_of items ++ l) (sym (rest_more change_in 10 q c.args.at c.args.count i c.loop-i-test.true)) ∙ c.loop-i.invariant))))
 
 pub returns : goal.returns

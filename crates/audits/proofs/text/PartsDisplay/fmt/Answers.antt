@@ -10,7 +10,7 @@ loop-part-init g c = sofar_none g.W.Write.write_str_gives _ _
 pub loop-part-preserved : goal.loop-part-preserved
 loop-part-preserved g c =
     sofar_more g.W.Write.write_str_gives _ _ _ _ _ _ _ c.loop-part.invariant (parts_more _ _ _ (drop_more c.args.self.now.0.now c.loop-part.part-index 0 (omega arith)))
-    (λ p. c.in_ok-write.ensures.shows p refl)
+    (λ p. c.in_ok-write.ensures.writes p refl)
 
 pub returns-clause-writes : goal.returns-clause-writes
 returns-clause-writes g c = λ p ok. sofar_all g.W.Write.write_str_gives _ _ _ _ c.loop-part.invariant (ap parts_text (drop_all c.loop-part.part-index c.args.self.now.0.now (omega arith))) p

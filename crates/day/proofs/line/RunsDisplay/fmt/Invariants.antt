@@ -10,4 +10,4 @@ abbrev pub invariant-loop-i : goal.invariant-loop-i
 invariant-loop-i g l =
     let landed = changes_in l.self.landed.count l.self.landed.numbers.now in
     let all = l.self.running in
-    Sofar g.W.Write.write_str_gives l.initial.f (flat_map run_text (runs_in landed all.count all.numbers.now)) (flat_map run_text (runs_in landed (all.count - l.-i) l.rest)) l.f
+    Sofar g.W.Write.write_str_gives l.initial.f (flat_map run_text (runs_in landed all.count all.numbers.now)) (flat_map run_text (runs_in landed (all.count - l._i) l.rest)) l.f

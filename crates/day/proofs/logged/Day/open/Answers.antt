@@ -6,22 +6,21 @@ use Rattle.day.specs.Played.{started}
 use Rattle.day.proofs.Log.{started_is, lent_day_none, all_taken_none}
 use Rattle.day.proofs.logged.Day.open.Goals as goal
 
-pub invariant-of-result : goal.invariant-of-result
-invariant-of-result c =
+pub invariant_of-result : goal.invariant_of-result
+invariant_of-result c =
     let a =
-    started_is c.deref-mut.result.now c.args.benches c.args.depth _ (c.deref-mut.ensures.value ∙ c.in-Ok.ensures.exact (λ y h. h)) c.in-Done.ensures in
-    let first : List ℕ = (started c.args.benches c.args.depth).1 in (
-      sym (ap (λ (x : Reply × List ℕ). is_done x.0) a),
-      (
-        with_items_is c.in-Ok.numbers c.open.new.queue (omega arith) ∙ ap (λ (x : Reply × List ℕ). x.1) a ∙ sym (lent_day_none first _ c.new.ensures.items),
-        (all_taken_none first _ c.new.ensures.items, tt),
-      ),
-    )
+    started_is c.deref_mut.result.now c.args.benches c.args.depth _ (c.deref_mut.ensures.value ∙ c.in-Ok.ensures.items_if_clones_equal (λ y h. h)) c.in-Done.ensures in
+    let first : List ℕ = (started c.args.benches c.args.depth).1 in
+    record {
+      began = sym (ap (λ (x : Reply × List ℕ). is_done x.0) a);
+      follows = with_items_is c.in-Ok.numbers c.open.new.queue (omega arith) ∙ ap (λ (x : Reply × List ℕ). x.1) a ∙ sym (lent_day_none first _ c.new.ensures.items);
+      taken = all_taken_none first _ c.new.ensures.items;
+    }
 
 pub returns-in-Done : goal.returns-in-Done
 returns-in-Done c =
     let a =
-    started_is c.deref-mut.result.now c.args.benches c.args.depth _ (c.deref-mut.ensures.value ∙ c.in-Ok.ensures.exact (λ y h. h)) c.in-Done.ensures in (
+    started_is c.deref_mut.result.now c.args.benches c.args.depth _ (c.deref_mut.ensures.value ∙ c.in-Ok.ensures.items_if_clones_equal (λ y h. h)) c.in-Done.ensures in (
       refl,
       refl,
       refl,
@@ -33,4 +32,4 @@ returns-in-Done c =
 pub returns-in-Refused : goal.returns-in-Refused
 returns-in-Refused c =
     sym (ap (λ (x : Reply × List ℕ). x.0)
-    (started_is c.deref-mut.result.now c.args.benches c.args.depth _ (c.deref-mut.ensures.value ∙ c.in-Ok.ensures.exact (λ y h. h)) c.in-Refused.ensures))
+    (started_is c.deref_mut.result.now c.args.benches c.args.depth _ (c.deref_mut.ensures.value ∙ c.in-Ok.ensures.items_if_clones_equal (λ y h. h)) c.in-Refused.ensures))

@@ -8,40 +8,38 @@ use Rattle.day.specs.Played.{started, all_taken}
 use Rattle.day.proofs.Log.{follows_more, taken_more, refusal-stays}
 use Rattle.day.proofs.logged.Day.step.Goals as goal
 
-pub invariant-of-self-in-Done : goal.invariant-of-self-in-Done
-invariant-of-self-in-Done c =
+pub invariant_of-self-in-Done : goal.invariant_of-self-in-Done
+invariant_of-self-in-Done c =
     let d = c.args.self.now in
     let first : List ℕ = (started d.benches d.depth).1 in
     let ys = c.apply-reply.new.queue in
-    let follows = c.deref-mut.ensures.value ∙ d.follows in
-    let grown = c.push-reserved.ensures.items ∙ ap (λ (l : List (List ℕ)). l ++ c.args.event ∷ []) c.reserve.ensures.items in (
-      d.began,
-      (
-        with_items_is d.numbers ys (omega arith) ∙ follows_more first _ ys c.args.event _ _ c.apply-reply.result c.apply-reply.ensures follows grown,
-        (taken_more first _ ys c.args.event _ _ (Done c.in-Done.field-0) c.in-Done.ensures follows grown d.taken refl, tt),
-      ),
-    )
+    let follows = c.deref_mut.ensures.value ∙ d.follows in
+    let grown = c.push_reserved.ensures.items ∙ ap (λ (l : List (List ℕ)). l ++ c.args.event ∷ []) c.reserve.ensures.items in
+    record {
+      began = d.began;
+      follows = with_items_is d.numbers ys (omega arith) ∙ follows_more first _ ys c.args.event _ _ c.apply-reply.result c.apply-reply.ensures follows grown;
+      taken = taken_more first _ ys c.args.event _ _ (Done c.in-Done.field-0) c.in-Done.ensures follows grown d.taken refl;
+    }
 
-pub invariant-of-self-in-Refused : goal.invariant-of-self-in-Refused
-invariant-of-self-in-Refused c =
+pub invariant_of-self-in-Refused : goal.invariant_of-self-in-Refused
+invariant_of-self-in-Refused c =
     let d = c.args.self.now in
     let first : List ℕ = (started d.benches d.depth).1 in
     let ys = c.apply-reply.new.queue in
-    let same = c.reserve.ensures.items in (
-      d.began,
-      (
-        with_items_is d.numbers ys (omega arith) ∙ refusal-stays _ c.args.event ys c.in-Refused.field-0 c.in-Refused.ensures ∙ c.deref-mut.ensures.value ∙ d.follows ∙ ap (lent_day first) (sym same),
-        (ap (all_taken first) same ∙ d.taken, tt),
-      ),
-    )
+    let same = c.reserve.ensures.items in
+    record {
+      began = d.began;
+      follows = with_items_is d.numbers ys (omega arith) ∙ refusal-stays _ c.args.event ys c.in-Refused.field-0 c.in-Refused.ensures ∙ c.deref_mut.ensures.value ∙ d.follows ∙ ap (lent_day first) (sym same);
+      taken = ap (all_taken first) same ∙ d.taken;
+    }
 
 pub returns-in-Done : goal.returns-in-Done
 returns-in-Done c =
     let d = c.args.self.now in
     let ys = c.apply-reply.new.queue in
     record {
-      answers = ap (λ (l : List ℕ). (c.apply-reply.result, l)) (with_items_is d.numbers ys (omega arith)) ∙ c.apply-reply.ensures ∙ ap (λ (l : List ℕ). stepped l c.args.event) c.deref-mut.ensures.value;
-      logs = c.push-reserved.ensures.items ∙ ap (λ (l : List (List ℕ)). l ++ c.args.event ∷ []) c.reserve.ensures.items
+      answers = ap (λ (l : List ℕ). (c.apply-reply.result, l)) (with_items_is d.numbers ys (omega arith)) ∙ c.apply-reply.ensures ∙ ap (λ (l : List ℕ). stepped l c.args.event) c.deref_mut.ensures.value;
+      logs = c.push_reserved.ensures.items ∙ ap (λ (l : List (List ℕ)). l ++ c.args.event ∷ []) c.reserve.ensures.items
           ∙ ap (λ (s : Reply). d.log.items ++ cond (is_done s) (c.args.event ∷ []) []) (sym c.in-Done.is);
       leaves = tt;
       stays = (refl, refl, refl);
@@ -52,7 +50,7 @@ returns-in-Refused c =
     let d = c.args.self.now in
     let ys = c.apply-reply.new.queue in
     record {
-      answers = ap (λ (l : List ℕ). (c.apply-reply.result, l)) (with_items_is d.numbers ys (omega arith)) ∙ c.apply-reply.ensures ∙ ap (λ (l : List ℕ). stepped l c.args.event) c.deref-mut.ensures.value;
+      answers = ap (λ (l : List ℕ). (c.apply-reply.result, l)) (with_items_is d.numbers ys (omega arith)) ∙ c.apply-reply.ensures ∙ ap (λ (l : List ℕ). stepped l c.args.event) c.deref_mut.ensures.value;
       logs = c.reserve.ensures.items ∙ sym (append-nil _) ∙ ap (λ (s : Reply). d.log.items ++ cond (is_done s) (c.args.event ∷ []) []) (sym c.in-Refused.is);
       leaves = tt;
       stays = (refl, refl, refl);
