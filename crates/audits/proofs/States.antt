@@ -10,7 +10,7 @@ use Rattle.run.specs.Run.{Run, Verdict}
 use Rattle.run.specs.declared.known.Known.{Known}
 use Rattle.run.specs.declared.known.Known.TheVariants.{Nothing, Good, Bad}
 use Rattle.serial.proofs.Steps.{mapped_more}
-use Rattle.audits.specs.Audit.{Fault, fault_of, faulty, first_fault, log_says, state, states, states_at, states_from}
+use Rattle.audits.specs.Audit.{fault_of, faulty, first_fault, log_says, states_at, states_from}
 use Rattle.audits.specs.declared.fault.Fault as code
 
 -- states behind those that are sound; states behind one that is not

@@ -1,8 +1,8 @@
 -- Laws of a section that holds a record for each element of a list, and 0 behind them.
-use Rattle.std.proofs.Common.{◌≡◌, ℕ, zero, suc, ◌+◌, ◌-◌, ◌*◌, ◌<◌, ◌≤◌, List, [], ◌∷◌, ◌++◌, length, get_or, take, drop, replicate, sym, refl, ap, ◌∙◌, mul-zero, mul-suc, mul-add, arith, length-append, length-drop, take-append-drop, length-take}
+use Rattle.std.proofs.Common.{◌≡◌, ℕ, ◌+◌, ◌-◌, ◌*◌, ◌<◌, ◌≤◌, List, [], ◌∷◌, ◌++◌, length, get_or, take, drop, replicate, sym, refl, ap, ◌∙◌, mul-zero, mul-suc, mul-add, arith, length-append, length-drop, take-append-drop}
 use lib.ListN.{length-replicate}
 use Rattle.std.proofs.lemmas.List.{append_assoc, append-nil, take_at, drop_at, drop-drop, drop-replicate, replicate-append-replicate, length-take-le, drop_more, length_push, get_or_at}
-use Rattle.std.specs.List.{AllByRecursion as All, flat_map}
+use Rattle.std.specs.List.{AllByRecursion, flat_map}
 use Rattle.change.proofs.Rows.{rows_split, length-rows, rows_append, put_middle}
 use borrow.Rule.Slice.PartMut.{put_mid}
 use Rattle.change.specs.Records.{table, written, row_out, rows}
@@ -80,7 +80,7 @@ module _ {A : Type 0} (row : A → List ℕ) (w : ℕ) (len : (x : A) → length
 
 -- what is read from the rows of a list is the list
 pub rows-joined : {A : Type 0} (f : List ℕ → A) (row : A → List ℕ) (w : ℕ) (P : A → Type 0) → ((x : A) → length (row x) ≡ w) → ((x : A) (ys : List ℕ) → P x → f (row x ++ ys) ≡ x) →
-    (xs : List A) (ys : List ℕ) → All P xs → rows f w (length xs) (flat_map row xs ++ ys) ≡ xs
+    (xs : List A) (ys : List ℕ) → AllByRecursion P xs → rows f w (length xs) (flat_map row xs ++ ys) ≡ xs
 rows-joined f row w P len reads [] ys all = refl
 rows-joined f row w P len reads (x ∷ xs) ys all =
     let a = append_assoc (row x) (flat_map row xs) ys in
@@ -89,7 +89,7 @@ rows-joined f row w P len reads (x ∷ xs) ys all =
     rw (h, d) (ap (λ l. x ∷ l) (rows-joined f row w P len reads xs ys all.1))
 
 pub rows-table : {A : Type 0} (f : List ℕ → A) (row : A → List ℕ) (w : ℕ) (P : A → Type 0) → ((x : A) → length (row x) ≡ w) → ((x : A) (ys : List ℕ) → P x → f (row x ++ ys) ≡ x) →
-    (n : ℕ) (xs : List A) → All P xs → rows f w (length xs) (table row n xs) ≡ xs
+    (n : ℕ) (xs : List A) → AllByRecursion P xs → rows f w (length xs) (table row n xs) ≡ xs
 rows-table f row w P len reads n xs all = ap (rows f w (length xs)) (table_is row w len n (w * length xs) xs refl) ∙ rows-joined f row w P len reads xs (replicate (n - w * length xs) 0) all
 
 pub get_d_rows : {A : Type 0} (f : List ℕ → A) (w n i : ℕ) (xs : List ℕ) (d : A) → i < n → get_or (rows f w n xs) i d ≡ f (drop (w * i) xs)

@@ -1,8 +1,7 @@
 -- The log of a day gives its numbers, and the promises hold of them. Assumes nothing.
-use Rattle.std.proofs.Common.{◌≡◌, ℕ, Bool, true, false, cond, ◌&&◌, List, [], ◌∷◌, ◌++◌, map, replicate, IfErr, Some, None, Ok, Err, Result, sym, refl, ap, ◌∙◌, subst, subst₂, true≢false}
+use Rattle.std.proofs.Common.{◌≡◌, ℕ, Bool, true, false, cond, ◌&&◌, List, [], ◌∷◌, ◌++◌, map, replicate, IfErr, Some, None, Ok, Err, Result, sym, refl, ap, ◌∙◌, subst₂, true≢false}
 use Rattle.run.specs.Layout.{queue_length}
 use Rattle.run.specs.Numbers.{decode}
-use Rattle.serial.specs.Serial.{Bench}
 use Rattle.queue.specs.Queue.{Event}
 use Rattle.queue.specs.Events.{event_in}
 use Rattle.queue.specs.Refusals.{Check, refusal, report_kind}

@@ -1,11 +1,11 @@
 -- What is said of a day: the promises that it keeps, and what it does with an event. Assumes nothing: these are definitions.
-use Rattle.std.specs.Prelude.{◌≡◌, ℕ, true, List, [], ◌∷◌, map, Ok, Err, vec_items, Result}
+use Rattle.std.specs.Prelude.{◌≡◌, ℕ, true, List, [], map, Ok, Err, vec_items, Result}
 use Rattle.run.specs.Numbers.{decode}
 use Rattle.serial.specs.Serial.{Bench}
 use Rattle.queue.specs.Events.{event_in}
 use Rattle.queue.specs.Entry.{config}
-use Rattle.queue.specs.declared.reply.Reply.TheVariants.{Done, Refused}
-use Rattle.promises.specs.Day.{Log, logged, Truthful}
+use Rattle.queue.specs.declared.reply.Reply.TheVariants.{Refused}
+use Rattle.promises.specs.Day.{logged, Truthful}
 use Rattle.promises.specs.Lent.{is_done}
 use Rattle.promises.specs.Promises.{AsSerial, AllTested}
 use Rattle.day.specs.Played.{started}

@@ -1,6 +1,6 @@
 -- Laws of moving one change between sections: it is put behind the others of a section, or taken out of it; and it is counted.
-use Rattle.std.proofs.Common.{◌≡◌, ℕ, zero, suc, ◌+◌, ◌-◌, ◌*◌, ◌<◌, ◌≤◌, Bool, true, false, cond, List, [], ◌∷◌, ◌++◌, length, get_or, take, drop, sym, refl, ap, ◌∙◌, add-one, arith, length-append}
-use Rattle.std.specs.List.{AllByRecursion as All}
+use Rattle.std.proofs.Common.{◌≡◌, ℕ, zero, suc, ◌+◌, ◌*◌, ◌<◌, ◌≤◌, Bool, true, false, cond, List, [], ◌∷◌, ◌++◌, length, get_or, take, drop, sym, refl, ap, ◌∙◌, add-one, arith, length-append}
+use Rattle.std.specs.List.{AllByRecursion}
 use Rattle.change.specs.Change.{Change, has, line, part_limit, without}
 use Rattle.change.specs.Records.{change_row, change_width, written, row_out, Tallies}
 use Rattle.change.proofs.Changes.{length-change_row, line-append}
@@ -25,7 +25,7 @@ module _ {A : Type 0} where
   length_without zero (x ∷ xs) lt = omega arith
   length_without (suc i) (x ∷ xs) lt = omega (arith, length_without i xs (omega arith))
 
-  pub all_without : (P : A → Type 0) (i : ℕ) (xs : List A) → All P xs → All P (without i xs)
+  pub all_without : (P : A → Type 0) (i : ℕ) (xs : List A) → AllByRecursion P xs → AllByRecursion P (without i xs)
   all_without P i [] h = tt
   all_without P zero (x ∷ xs) h = h.1
   all_without P (suc i) (x ∷ xs) h = (h.0, all_without P i xs h.1)

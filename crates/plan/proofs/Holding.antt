@@ -1,6 +1,6 @@
 -- Laws of sections that hold runs and verdicts, and of requesting runs on top of them.
 use Rattle.std.proofs.Common.{◌≡◌, ℕ, ◌+◌, ◌-◌, ◌*◌, ◌<◌, ◌≤◌, Bool, true, false, cond, not, ◌&&◌, ◌||◌, ltb, List, [], ◌∷◌, ◌++◌, map, length, get_or, take, drop, replicate, sym, refl, ap, ◌∙◌, subst, arith}
-use Rattle.std.specs.List.{flat_map, AllByRecursion as All}
+use Rattle.std.specs.List.{flat_map, AllByRecursion}
 use Rattle.std.proofs.lemmas.List.{append_assoc, take_at, drop_at, length_push, at_drop_more}
 use Rattle.std.proofs.ByRecursion.{All-push}
 use Rattle.std.proofs.lemmas.Bool.{cond_both, le-ltb, ltb-true, and_parts}
@@ -50,12 +50,12 @@ unfolding verdict_row
 verdict_front cs v ys = ap (take run_width) (append_assoc (run_row cs v.run) (cond v.good 1 0 ∷ []) ys) ∙ run_front cs v.run (cond v.good 1 0 ∷ ys)
 
 -- a run among rows is a run among runs
-has-among : (cs : List Change) (r : Run) → Ahead cs r → (rs : List Run) → All (Ahead cs) rs → has_row (run_row cs r) (map (run_row cs) rs) ≡ among r rs
+has-among : (cs : List Change) (r : Run) → Ahead cs r → (rs : List Run) → AllByRecursion (Ahead cs) rs → has_row (run_row cs r) (map (run_row cs) rs) ≡ among r rs
 has-among cs r h [] all = refl
 has-among cs r h (x ∷ xs) all = λ i. row_same cs r x h all.0 i || has-among cs r h xs all.1 i
 
 -- a run of which no verdict has the row is unknown
-has-known : (cs : List Change) (r : Run) → Ahead cs r → (vs : List Verdict) → All (AheadVerdict cs) vs → not (has_row (run_row cs r) (map (λ (v : Verdict). run_row cs v.run) vs)) ≡ is_unknown (heard r vs)
+has-known : (cs : List Change) (r : Run) → Ahead cs r → (vs : List Verdict) → AllByRecursion (AheadVerdict cs) vs → not (has_row (run_row cs r) (map (λ (v : Verdict). run_row cs v.run) vs)) ≡ is_unknown (heard r vs)
 has-known cs r h [] all = refl
 has-known cs r h (v ∷ vs) all =
     ap (λ b. not (b || has_row (run_row cs r) (map (λ (v : Verdict). run_row cs v.run) vs))) (row_same cs r v.run h all.0) ∙ go (has-known cs r h vs all.1) (same_run r v.run) v.good

@@ -1,7 +1,7 @@
 -- Laws of what passes a test, and of rows of it written one after another into a section of 0.
 use Rattle.std.proofs.Common.{◌≡◌, ℕ, suc, ◌+◌, ◌-◌, ◌*◌, ◌≤◌, Bool, true, false, cond, List, [], ◌∷◌, ◌++◌, length, get_or, take, drop, replicate, sym, refl, ap, ◌∙◌, arith}
 use native.Mathlib.Nat.{sub-zero}
-use Rattle.std.specs.List.{AllByRecursion as All}
+use Rattle.std.specs.List.{AllByRecursion}
 use Rattle.std.proofs.lemmas.List.{drop-drop, length_push, get_or-take}
 use Rattle.change.specs.Change.{Change, line}
 use Rattle.change.specs.Records.{rows, table, written}
@@ -27,11 +27,11 @@ module _ {A : Type 0} (t : A → Bool) where
   kept_no [] x e = ap (λ b. cond b (x ∷ []) []) e
   kept_no (y ∷ ys) x e = ap (λ l. cond (t y) (y ∷ l) l) (kept_no ys x e)
 
-  all-kept : (P : A → Type 0) → ((x : A) → t x ≡ true → P x) → (xs : List A) → All P (kept t xs)
+  all-kept : (P : A → Type 0) → ((x : A) → t x ≡ true → P x) → (xs : List A) → AllByRecursion P (kept t xs)
   all-kept P h [] = tt
   all-kept P h (x ∷ xs) = go (all-kept P h xs) (t x) refl
     where
-      go : All P (kept t xs) → (b : Bool) → t x ≡ b → All P (cond b (x ∷ kept t xs) (kept t xs))
+      go : AllByRecursion P (kept t xs) → (b : Bool) → t x ≡ b → AllByRecursion P (cond b (x ∷ kept t xs) (kept t xs))
       go ih true e = (h x e, ih)
       go ih false e = ih
 

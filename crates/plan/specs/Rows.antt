@@ -1,6 +1,6 @@
 -- Runs as rows of numbers, and sections that hold a row for each. Assumes nothing: these are definitions.
 use Rattle.std.specs.Prelude.{◌≡◌, ℕ, ◌*◌, ◌≤◌, Bool, false, not, ◌&&◌, ◌||◌, List, [], ◌∷◌, length, take, nat_lt}
-use Rattle.std.specs.List.{AllByRecursion as All}
+use Rattle.std.specs.List.{AllByRecursion}
 use Rattle.change.specs.Change.{Change}
 use Rattle.change.specs.Records.{rows, table}
 use Rattle.run.specs.Run.{Run, Verdict, same_list}
@@ -19,7 +19,7 @@ run_rows w n xs = rows (take run_width) w n xs
 -- a section of `most` records of width w holds these: a row for each, 0 behind, and each has a property
 pub record Holds {A : Type 0} (row : A → List ℕ) (P : A → Type 0) (w most n : ℕ) (xs : List ℕ) (ys : List A) : Type 0 where
   pub is : xs ≡ table row (w * most) ys
-  pub all : All P ys
+  pub all : AllByRecursion P ys
   pub count : n ≡ length ys
   pub few : n ≤ most
 

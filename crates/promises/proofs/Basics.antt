@@ -2,7 +2,7 @@
 use Rattle.std.proofs.Common.{◌≡◌, ℕ, suc, Bool, true, false, cond, ◌&&◌, ◌||◌, eqb, List, [], ◌∷◌, ◌++◌, length, sym, refl, ap, ◌∙◌, subst, true≢false, append-nil}
 use mathlib.Core.Bool.{or-true, or-false, or_assoc, or_comm}
 use Rattle.std.proofs.lemmas.Bool.{eqb-true, eq-eqb}
-use Rattle.std.specs.List.{AllByRecursion as All}
+use Rattle.std.specs.List.{AllByRecursion}
 use Rattle.change.proofs.Changes.{line-append}
 use Rattle.change.specs.Change.{Change, has, share, line, numbered}
 use Rattle.plan.specs.Plan.{kept}
@@ -85,20 +85,20 @@ pub has_tail : (q : ℕ) (ps : List ℕ) (p : ℕ) → has ps p ≡ true → has
 has_tail q ps p e = ap (◌||◌ (eqb q p)) e ∙ or-true (eqb q p)
 
 -- what holds of each of a list
-pub all_both : {A : Type 0} (P : A → Type 0) (xs ys : List A) → All P (xs ++ ys) → All P xs × All P ys
+pub all_both : {A : Type 0} (P : A → Type 0) (xs ys : List A) → AllByRecursion P (xs ++ ys) → AllByRecursion P xs × AllByRecursion P ys
 all_both P [] ys h = (tt, h)
 all_both P (x ∷ xs) ys h = let k = all_both P xs ys h.1 in ((h.0, k.0), k.1)
 
-pub all-kept : {A : Type 0} (P : A → Type 0) (test : A → Bool) (xs : List A) → All P xs → All P (kept test xs)
+pub all-kept : {A : Type 0} (P : A → Type 0) (test : A → Bool) (xs : List A) → AllByRecursion P xs → AllByRecursion P (kept test xs)
 all-kept P test [] h = tt
 all-kept P test (x ∷ xs) h = go (all-kept P test xs h.1) (test x)
   where
-    go : All P (kept test xs) → (b : Bool) → All P (cond b (x ∷ kept test xs) (kept test xs))
+    go : AllByRecursion P (kept test xs) → (b : Bool) → AllByRecursion P (cond b (x ∷ kept test xs) (kept test xs))
     go ih true = (h.0, ih)
     go ih false = ih
 
 -- a filter that all pass keeps all
-pub kept-all : {A : Type 0} (test : A → Bool) (xs : List A) → All (λ x. test x ≡ true) xs → kept test xs ≡ xs
+pub kept-all : {A : Type 0} (test : A → Bool) (xs : List A) → AllByRecursion (λ x. test x ≡ true) xs → kept test xs ≡ xs
 kept-all test [] h = refl
 kept-all test (x ∷ xs) h = ap (λ (b : Bool). cond b (x ∷ kept test xs) (kept test xs)) h.0 ∙ ap (λ (r : List _). x ∷ r) (kept-all test xs h.1)
 

@@ -1,7 +1,7 @@
 -- The numbers of a queue that fits pass every check of a queue. Assumes nothing.
 use Rattle.std.proofs.Common.{◌≡◌, ℕ, ◌+◌, ◌-◌, ◌*◌, ◌<◌, ◌≤◌, Bool, true, false, cond, not, ◌&&◌, leb, List, [], ◌∷◌, ◌++◌, length, get_or, take, drop, replicate, is_some, Some, None, Option, sym, refl, ap, ◌∙◌, ap₂, append_assoc, arith, length-append}
 use Rattle.std.proofs.lemmas.Bool.{le-leb}
-use Rattle.std.specs.List.{AllByRecursion as All, flat_map}
+use Rattle.std.specs.List.{AllByRecursion, flat_map}
 use Rattle.std.specs.Option.{option_map}
 use Rattle.std.proofs.lemmas.List.{drop_at, take-append-drop, drop-drop, get_or-drop, get_or_append_left}
 use Rattle.queue.specs.declared.reply.Refusal.{Refusal}
@@ -73,7 +73,7 @@ module _ {A : Type 0} (row : A → List ℕ) (w : ℕ) (long : (x : A) → lengt
 -- no count is too large
 over_none : {A : Type 0} (P : A → Type 0) (row : A → List ℕ) (w field most : ℕ) → ((x : A) → length (row x) ≡ w) → field < w →
     ((x : A) → P x → get_or (row x) field 0 ≤ most) →
-    (cs : List A) → All P cs → (at : ℕ) (xs : List ℕ) → From row cs at xs → over w field most (length cs) at xs ≡ None
+    (cs : List A) → AllByRecursion P cs → (at : ℕ) (xs : List ℕ) → From row cs at xs → over w field most (length cs) at xs ≡ None
 over_none P row w field most long l k [] a at xs h = refl
 over_none P row w field most long l k (c ∷ cs) a at xs h =
     ap (λ (b : Bool). cond b (over w field most (length cs) (at + w) xs) (Some (at + field))) (le-leb (get_or xs (at + field) 0) most (omega (arith, k c a.0, field_at row w long c cs at xs h field l)))
@@ -163,7 +163,7 @@ says-encode t q behind f =
     }
 
 -- no change has too many parts
-changes_checked : (cs : List Change) (count at most : ℕ) (xs : List ℕ) → All Small cs → get_or xs count 0 ≡ length cs →
+changes_checked : (cs : List Change) (count at most : ℕ) (xs : List ℕ) → AllByRecursion Small cs → get_or xs count 0 ≡ length cs →
     take (change_width * most) (drop at xs) ≡ changes_section most cs → Tests (changes_check count at xs) true
 changes_checked cs count at most xs a n e = turned (tests_found Malformed (over change_width 1 most_parts (get_or xs count 0) at xs)) (ap (λ (o : Option ℕ). not (is_some o)) (ap (λ (k : ℕ). over change_width 1 most_parts k at xs) n
     ∙ over_none Small change_row change_width 1 most_parts length-change_row (omega arith) (λ c s. s) cs a at xs (from_section change_row (change_width * most) cs at xs e)))

@@ -1,7 +1,7 @@
 -- Each event that is taken and submits nothing makes the measure fall. Assumes nothing.
 use Rattle.std.proofs.Common.{◌≡◌, ℕ, suc, ◌+◌, ◌-◌, ◌*◌, ◌<◌, ◌≤◌, Bool, true, false, cond, ◌||◌, eqb, ◌⊎◌, List, [], ◌∷◌, ◌++◌, length, get_or, sym, refl, ap, ◌∙◌, subst, ap₂, inl, inr, true≢false, arith, length-append}
 use Rattle.std.proofs.lemmas.Bool.{ltb-true, lt-ltb}
-use Rattle.std.specs.List.{AllByRecursion as All}
+use Rattle.std.specs.List.{AllByRecursion}
 use Rattle.std.proofs.lemmas.List.{length_push, length-map}
 use Rattle.change.specs.Change.{most_parts, Change, numbered, dropped, without}
 use Rattle.run.specs.Run.{Run, Verdict}
@@ -69,7 +69,7 @@ falls_report t q i g a o same = omega (
     said : Verdict
     said = record { run = get_or q.running i no_run; good = g }
 
-    all-useful : All (λ r. among r (useful_in t q) ≡ true) (known (q.verdicts ++ said ∷ []))
+    all-useful : AllByRecursion (λ r. among r (useful_in t q) ≡ true) (known (q.verdicts ++ said ∷ []))
     all-useful = all_from (λ r. among r (useful_in t q) ≡ true) (known (q.verdicts ++ said ∷ []))
         (λ r e. o.useful r (sym ((moved t q (report i g) a).same r) ∙ among-left r (known (q.verdicts ++ said ∷ [])) (without i q.running) e))
 

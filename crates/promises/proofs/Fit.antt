@@ -1,7 +1,7 @@
 -- What a reachable queue holds fits its sections. Assumes nothing.
 use Rattle.std.proofs.Common.{◌≡◌, ℕ, suc, ◌+◌, ◌<◌, ◌≤◌, Bool, true, false, cond, ◌&&◌, eqb, ltb, ◌⊎◌, List, [], ◌∷◌, length, sym, ap, ◌∙◌, subst, inl, inr, arith, length-append}
 use Rattle.std.proofs.lemmas.Bool.{ltb-true, cases_lt}
-use Rattle.std.specs.List.{AllByRecursion as All}
+use Rattle.std.specs.List.{AllByRecursion}
 use Rattle.std.proofs.ByRecursion.{All-weaker}
 use Rattle.std.proofs.lemmas.List.{nil_from_length, length_push, length-map}
 use Rattle.change.specs.Change.{most_parts, Change, dropped}
@@ -125,12 +125,12 @@ few_verdicts t es d = go (cases_lt 0 t.depth) (cases_lt 0 (length q.waiting))
               ]),
         )
 
-pub all-verdicts : (P : Run → Type 0) (vs : List Verdict) → All P (known vs) → All (λ v. P v.run) vs
+pub all-verdicts : (P : Run → Type 0) (vs : List Verdict) → AllByRecursion P (known vs) → AllByRecursion (λ v. P v.run) vs
 all-verdicts P [] a = tt
 all-verdicts P (v ∷ vs) a = (a.0, all-verdicts P vs a.1)
 
 -- every run held is useful, and begins as useful runs do
-begins_day : (t : Config) (es : List Event) → All (AheadBy (replayed t empty es).landed t.depth) (held (replayed t empty es))
+begins_day : (t : Config) (es : List Event) → AllByRecursion (AheadBy (replayed t empty es).landed t.depth) (held (replayed t empty es))
 begins_day t es =
     let q = replayed t empty es in
     all_from (AheadBy q.landed t.depth) (held q) (λ r e. useful_begin t.depth q.landed q.waiting r ((orderly t es).useful r e))
@@ -159,7 +159,7 @@ fits_day t es d b = record {
     m : RoomyIn q
     m = roomy_day t es
 
-    ahead : All (Ahead q.landed) (known q.verdicts) × All (Ahead q.landed) q.running
+    ahead : AllByRecursion (Ahead q.landed) (known q.verdicts) × AllByRecursion (Ahead q.landed) q.running
     ahead = all_both (Ahead q.landed) (known q.verdicts) q.running
         (All-weaker (AheadBy q.landed t.depth) (Ahead q.landed) (λ r k. record { following = k.following; is = k.is; few = omega (arith, k.few, d) }) (held q) (begins_day t es))
 

@@ -2,7 +2,7 @@
 use Rattle.std.proofs.Common.{◌≡◌, ℕ, zero, suc, ◌+◌, ◌<◌, ◌≤◌, Bool, true, false, cond, not, ◌&&◌, ◌||◌, eqb, ltb, ◌⊎◌, List, [], ◌∷◌, ◌++◌, map, length, get_or, sym, refl, ap, ◌∙◌, subst, ap₂, inl, inr, true≢false, append_assoc, append-nil, arith, length-append}
 use mathlib.Core.Bool.{or-true}
 use Rattle.std.proofs.lemmas.Bool.{eqb-true, eqb-false, ne_eqb, not-true, or_from, not-false, ltb-true, ltb-false, or_cases, and_cases}
-use Rattle.std.specs.List.{AllByRecursion as All}
+use Rattle.std.specs.List.{AllByRecursion}
 use Rattle.std.proofs.ByRecursion.{All-push}
 use Rattle.std.proofs.lemmas.List.{length_push, map_push}
 use Rattle.run.specs.declared.known.Known.TheVariants.{Good, Bad}
@@ -10,8 +10,8 @@ use Rattle.run.proofs.Compared.{same_run_swap}
 use Rattle.change.specs.Change.{Change, numbered, dropped, without}
 use Rattle.run.specs.Run.{Run, Verdict, same_run, heard, is_unknown}
 use Rattle.run.specs.State.{Config, Queue, empty}
-use Rattle.plan.specs.Plan.{useful, among, kept, still_running, still_known, lacks, request, useful_in, planned}
-use Rattle.queue.specs.Queue.{Event, submit, withdraw, report, used, fresh, proper, roomy, accepts, no_run, answered, recorded, decided, step, after, replayed}
+use Rattle.plan.specs.Plan.{among, kept, still_running, still_known, lacks, request, useful_in, planned}
+use Rattle.queue.specs.Queue.{Event, submit, withdraw, report, used, fresh, proper, roomy, accepts, no_run, answered, recorded, decided, step, replayed}
 use Rattle.promises.specs.Day.{held, Different}
 use Rattle.promises.specs.Promises.{OnlyUsefulRuns}
 use Rattle.promises.proofs.Basics.{clash, not_so, neither_left, neither_right, both_left, both_right, numbered_push, length-place}
@@ -24,9 +24,9 @@ use Rattle.promises.proofs.Useful.{Proper, proper_is}
 
 -- CHANGES. L has landed, W waits, B was rejected.
 pub record Neat (L W B : List Change) : Type 0 where
-  pub landed : All Proper L
-  pub waiting : All Proper W
-  pub rejected : All Proper B
+  pub landed : AllByRecursion Proper L
+  pub waiting : AllByRecursion Proper W
+  pub rejected : AllByRecursion Proper B
   pub distinct : Distinct W
   pub apart : (n : ℕ) → numbered n W ≡ true → numbered n L ≡ false
 
@@ -72,11 +72,11 @@ neat-decided : (q : Queue) → NeatIn q → NeatIn (decided q)
 unfolding decided
 neat-decided q k = pass_all q.verdicts Neat (λ L W₁ c W₂ B e h. neat-land L W₁ c W₂ B h) (λ L W₁ c W₂ B e h. neat-reject L W₁ c W₂ B h) q.landed q.waiting q.rejected k
 
-all-dropped : (P : Change → Type 0) (n : ℕ) (cs : List Change) → All P cs → All P (dropped n cs)
+all-dropped : (P : Change → Type 0) (n : ℕ) (cs : List Change) → AllByRecursion P cs → AllByRecursion P (dropped n cs)
 all-dropped P n [] s = tt
 all-dropped P n (c ∷ cs) s = go (all-dropped P n cs s.1) (eqb c.number n)
   where
-    go : All P (dropped n cs) → (b : Bool) → All P (cond b cs (c ∷ dropped n cs))
+    go : AllByRecursion P (dropped n cs) → (b : Bool) → AllByRecursion P (cond b cs (c ∷ dropped n cs))
     go ih true = s.1
     go ih false = (s.0, ih)
 

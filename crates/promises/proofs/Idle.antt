@@ -2,7 +2,7 @@
 use Rattle.std.proofs.Common.{◌≡◌, ℕ, zero, suc, ◌<◌, Bool, true, false, cond, ◌&&◌, ◌⊎◌, List, [], ◌∷◌, ◌++◌, length, sym, refl, ap, ◌∙◌, subst, subst₂, inl, inr, true≢false, append_assoc, append-nil, arith}
 use mathlib.Core.Bool.{and-false}
 use Rattle.std.proofs.lemmas.Bool.{not-true, or_from, and_cases}
-use Rattle.std.specs.List.{AllByRecursion as All}
+use Rattle.std.specs.List.{AllByRecursion}
 use Rattle.run.specs.declared.known.Known.{Known}
 use Rattle.run.specs.declared.known.Known.TheVariants.{Nothing, Good, Bad}
 use Rattle.run.proofs.Compared.{same_run_true}
@@ -60,7 +60,7 @@ row_at : (Q : List Change → Change → Type 0) (pre before : List Change) (c :
 row_at Q pre [] c rest r = subst (λ (x : List Change). Q x c) (sym (append-nil pre)) r.0
 row_at Q pre (b ∷ before) c rest r = subst (λ (x : List Change). Q x c) (append_assoc pre (b ∷ []) before) (row_at Q (pre ++ b ∷ []) before c rest r.1)
 
-row-map : (T : Change → Type 0) (Q R : List Change → Change → Type 0) → ((pre : List Change) (w : Change) → T w → Q pre w → R pre w) → (pre ws : List Change) → All T ws →
+row-map : (T : Change → Type 0) (Q R : List Change → Change → Type 0) → ((pre : List Change) (w : Change) → T w → Q pre w → R pre w) → (pre ws : List Change) → AllByRecursion T ws →
     Row Q pre ws → Row R pre ws
 row-map T Q R k pre [] a r = tt
 row-map T Q R k pre (w ∷ ws) a r = (k pre w a.0 r.0, row-map T Q R k (pre ++ w ∷ []) ws a.1 r.1)

@@ -1,7 +1,7 @@
 -- The main promise: the decisions are those of serial testing. Assumes nothing.
 use Rattle.std.proofs.Common.{◌≡◌, ℕ, true, false, ◌||◌, eqb, List, [], ◌∷◌, ◌++◌, get_or, sym, refl, ap, ◌∙◌, subst, ap₂, append-nil}
 use Rattle.std.proofs.lemmas.Bool.{or_from}
-use Rattle.std.specs.List.{AllByRecursion as All}
+use Rattle.std.specs.List.{AllByRecursion}
 use Rattle.std.proofs.ByRecursion.{All-push}
 use Rattle.change.specs.Change.{Change, line, numbered, dropped}
 use Rattle.run.specs.Run.{Verdict}
@@ -80,7 +80,7 @@ land-keeps f ks C t L W₁ c W₂ B y g = go (place f C L W₁ c W₂ B g)
       wait_is = waits-append s.m₁ (land c ∷ s.m₂) ∙ ap₂ ◌++◌ s.w₁ s.w₂;
       sound = sound-join f s.m₁ (wait c ∷ s.m₂) (land c ∷ s.m₂) [] [] s.sound (
         record {
-          clear = subst (All (Loose c)) (sym s.w₁) y.apart;
+          clear = subst (AllByRecursion (Loose c)) (sym s.w₁) y.apart;
           passing = passes-place f C L W₁ c W₂ B s ∙ good;
         },
         subst (λ (v : List Change). Sound f (lands s.m₁ ++ c ∷ []) v s.m₂) (append-nil (waits s.m₁))
@@ -98,7 +98,7 @@ unfolding passes
 reject-keeps f ks C t L W₁ c W₂ B y g = go (place f C L W₁ c W₂ B g)
   where
     falls : (s : Place f C L W₁ c W₂ B) → WhyReject ks L W₁ c → Falls f (lands s.m₁) (waits s.m₁) c
-    falls s w = record { clear = subst (All (Loose c)) (sym s.w₁) w.apart; failing = passes-place f C L W₁ c W₂ B s ∙ bad_fails f ks t L c c.parts w.bad }
+    falls s w = record { clear = subst (AllByRecursion (Loose c)) (sym s.w₁) w.apart; failing = passes-place f C L W₁ c W₂ B s ∙ bad_fails f ks t L c c.parts w.bad }
 
     go : Place f C L W₁ c W₂ B → Matches f C L (W₁ ++ W₂) (B ++ c ∷ [])
     go s = record {

@@ -2,7 +2,7 @@
 use Rattle.std.proofs.Common.{◌≡◌, ℕ, Bool, true, false, cond, ◌||◌, eqb, List, [], ◌∷◌, ◌++◌, length, sym, refl, ap, ◌∙◌, subst, ap₂, subst₂, append_assoc, append-nil, arith}
 use mathlib.Core.Bool.{or-true, or_assoc}
 use Rattle.std.proofs.lemmas.Bool.{eqb-true, eqb-false, eq-eqb, ne_eqb, or_from}
-use Rattle.std.specs.List.{AllByRecursion as All}
+use Rattle.std.specs.List.{AllByRecursion}
 use Rattle.change.proofs.Changes.{line-append}
 use Rattle.change.specs.Change.{Change, has, line, numbered, dropped}
 use Rattle.serial.specs.Serial.{Bench, passes, serial_landed, serial_rejected}
@@ -100,12 +100,12 @@ rejects-append (reject c ∷ m) k = ap (λ (r : List Change). c ∷ r) (rejects-
 
 -- why a change stands as landed: xs landed before it, ws wait before it
 pub record Stands (f : Bench) (xs ws : List Change) (d : Change) : Type 0 where
-  pub clear : All (Loose d) ws
+  pub clear : AllByRecursion (Loose d) ws
   pub passing : passes f xs d ≡ true
 
 -- why a change was rejected: it does not pass, whatever becomes of those that wait before it
 pub record Falls (f : Bench) (xs ws : List Change) (d : Change) : Type 0 where
-  pub clear : All (Loose d) ws
+  pub clear : AllByRecursion (Loose d) ws
   pub failing : passes f xs d ≡ false
 
 -- each decided change stands for its reason, by what landed (xs) and what waits (ws) before it

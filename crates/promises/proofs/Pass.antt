@@ -1,7 +1,7 @@
 -- The pass over those that wait: what a decision rests on, and what is kept by each decision is kept by the pass. Assumes nothing.
 use Rattle.std.proofs.Common.{◌≡◌, ℕ, Bool, true, false, cond, ◌&&◌, ◌||◌, List, [], ◌∷◌, ◌++◌, sym, refl, ap, ◌∙◌, subst, ap₂, true≢false, append_assoc, append-nil}
 use mathlib.Core.Bool.{and-false}
-use Rattle.std.specs.List.{AllByRecursion as All}
+use Rattle.std.specs.List.{AllByRecursion}
 use Rattle.decide.specs.declared.decision.Decision.{Decision}
 use Rattle.decide.specs.declared.decision.Decision.TheVariants.{Wait, Land, Reject}
 use Rattle.run.specs.declared.known.Known.TheVariants.{Good, Bad}
@@ -16,7 +16,7 @@ use Rattle.promises.proofs.Serial.{Apart}
 
 -- all that is known to be good is good on the bench
 abbrev pub Vouched : Bench → List Verdict → Type 0
-Vouched f ks = All (λ v. v.good ≡ true → f v.run.part v.run.changes ≡ true) ks
+Vouched f ks = AllByRecursion (λ v. v.good ≡ true → f v.run.part v.run.changes ≡ true) ks
 
 pub truthful-vouched : (f : Bench) (ks : List Verdict) → Truthful f ks → Vouched f ks
 truthful-vouched f [] t = tt

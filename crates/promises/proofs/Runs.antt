@@ -2,7 +2,7 @@
 use Rattle.std.proofs.Common.{◌≡◌, suc, ◌≤◌, Bool, true, false, cond, ◌&&◌, ◌||◌, ◌⊎◌, List, [], ◌∷◌, ◌++◌, length, sym, refl, ap, ◌∙◌, subst, inl, inr, true≢false, arith}
 use mathlib.Core.Bool.{and-false, or-true, or-false, or_assoc}
 use Rattle.std.proofs.lemmas.Bool.{or_from, or_cases}
-use Rattle.std.specs.List.{AllByRecursion as All}
+use Rattle.std.specs.List.{AllByRecursion}
 use Rattle.run.proofs.Compared.{same_run_true, same_run_refl}
 use Rattle.run.specs.Run.{Run, same_run}
 use Rattle.plan.specs.Plan.{among, kept}
@@ -40,7 +40,7 @@ abbrev pub Sub : List Run → List Run → Type 0
 Sub xs ys = (r : Run) → among r xs ≡ true → among r ys ≡ true
 
 -- what holds of every run that stands in a list holds of each
-pub all_from : (P : Run → Type 0) (xs : List Run) → ((r : Run) → among r xs ≡ true → P r) → All P xs
+pub all_from : (P : Run → Type 0) (xs : List Run) → ((r : Run) → among r xs ≡ true → P r) → AllByRecursion P xs
 all_from P [] k = tt
 all_from P (x ∷ xs) k = (k x (among_head x xs), all_from P xs (λ r e. k r (among_right r (x ∷ []) xs e)))
 

@@ -1,6 +1,6 @@
 -- Whether a change passes rests on the lines of its own parts and on nothing else. Assumes nothing.
 use Rattle.std.proofs.Common.{◌≡◌, ℕ, Bool, true, false, cond, ◌&&◌, List, [], ◌∷◌, ◌++◌, sym, refl, ap, ◌∙◌, ap₂}
-use Rattle.std.specs.List.{AllByRecursion as All}
+use Rattle.std.specs.List.{AllByRecursion}
 use Rattle.change.proofs.Changes.{line-append}
 use Rattle.change.specs.Change.{Change, has, line}
 use Rattle.serial.specs.Serial.{Bench, passes_on, passes}
@@ -55,14 +55,14 @@ off_swap c d o xs p = go (has c.parts p) refl
         ∙ sym (line_off p (xs ++ d ∷ []) c h)
 
 -- what holds of each of a list holds without one of them, and of that one
-pub all-out : (Q : Change → Type 0) (V : List Change) (c : Change) (U : List Change) → All Q (V ++ c ∷ U) → All Q (V ++ U)
+pub all-out : (Q : Change → Type 0) (V : List Change) (c : Change) (U : List Change) → AllByRecursion Q (V ++ c ∷ U) → AllByRecursion Q (V ++ U)
 all-out Q [] c U a = a.1
 all-out Q (v ∷ V) c U a = (a.0, all-out Q V c U a.1)
 
-pub all-at : (Q : Change → Type 0) (V : List Change) (c : Change) (U : List Change) → All Q (V ++ c ∷ U) → Q c
+pub all-at : (Q : Change → Type 0) (V : List Change) (c : Change) (U : List Change) → AllByRecursion Q (V ++ c ∷ U) → Q c
 all-at Q [] c U a = a.0
 all-at Q (v ∷ V) c U a = all-at Q V c U a.1
 
 -- a change shares no part with any of a list
 abbrev pub Apart : Change → List Change → Type 0
-Apart c ds = All (Loose c) ds
+Apart c ds = AllByRecursion (Loose c) ds

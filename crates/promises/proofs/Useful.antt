@@ -2,7 +2,7 @@
 use Rattle.std.proofs.Common.{◌≡◌, ℕ, zero, suc, ◌+◌, ◌*◌, ◌<◌, ◌≤◌, Bool, true, false, cond, not, ◌&&◌, ◌||◌, eqb, ltb, leb, ◌⊎◌, List, [], ◌∷◌, ◌++◌, length, is_some, Some, sym, refl, ap, ◌∙◌, subst, ap₂, inl, inr, true≢false, append_assoc, append-nil, arith, length-append}
 use mathlib.Core.Bool.{or-true}
 use Rattle.std.proofs.lemmas.Bool.{eqb-true, eq-eqb, not-true, leb-true, or_cases}
-use Rattle.std.specs.List.{AllByRecursion as All}
+use Rattle.std.specs.List.{AllByRecursion}
 use Rattle.change.proofs.Changes.{line-append, length-line_le}
 use Rattle.run.proofs.Compared.{same_run_true}
 use Rattle.change.specs.Change.{part_limit, most_parts, Change, has, line, numbered, fault_from, fault}
@@ -165,7 +165,7 @@ different-runs b n [] d = tt
 different-runs b n (p ∷ ps) d = (not_so (among (run_on b n p) (runs_on b n ps)) (λ e. clash (runs-part b n ps (run_on b n p) e) d.0), different-runs b n ps d.1)
 
 -- at most eight useful runs for each change looked at, and one for each part of those that wait
-pub useful-few : (n : ℕ) (ws xs : List Change) → All Proper ws → length (useful n xs ws) ≤ most_parts * n
+pub useful-few : (n : ℕ) (ws xs : List Change) → AllByRecursion Proper ws → length (useful n xs ws) ≤ most_parts * n
 unfolding useful
 useful-few zero ws xs s = omega arith
 useful-few (suc n) [] xs s = omega arith

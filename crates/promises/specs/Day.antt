@@ -1,6 +1,6 @@
 -- What is written down of a day, and the words in which the promises are stated. Assumes nothing: these are definitions.
 use Rattle.std.specs.Prelude.{◌≡◌, ℕ, suc, ◌+◌, ◌-◌, ◌*◌, ◌≤◌, Bool, true, false, cond, not, ◌&&◌, ◌||◌, List, [], ◌∷◌, ◌++◌, map, length, slice_index_or}
-use Rattle.std.specs.List.{AllByRecursion as All}
+use Rattle.std.specs.List.{AllByRecursion}
 use Rattle.change.specs.Change.{most_parts, Change, line, numbered, dropped}
 use Rattle.run.specs.Run.{Run, Verdict, same_run}
 use Rattle.run.specs.State.{Config, Queue, empty}
@@ -61,7 +61,7 @@ logged t es = log t empty es blank
 
 -- each verdict is what the bench says of its run
 abbrev pub Truthful : Bench → List Verdict → Type 0
-Truthful bench vs = All (λ v. v.good ≡ bench v.run.part v.run.changes) vs
+Truthful bench vs = AllByRecursion (λ v. v.good ≡ bench v.run.part v.run.changes) vs
 
 -- one of the verdicts says good of the run
 abbrev pub said_good : Run → List Verdict → Bool

@@ -1,6 +1,6 @@
 -- What every day comes to, for every config and every list of events, those that are not taken included. Each statement's proof stands behind the function of its name.
 use Rattle.std.specs.Prelude.{◌≡◌, ℕ, suc, ◌+◌, ◌*◌, ◌<◌, ◌≤◌, Bool, true, false, List, [], ◌∷◌, ◌++◌, length, take, slice_index_or}
-use Rattle.std.specs.List.{AllByRecursion as All}
+use Rattle.std.specs.List.{AllByRecursion}
 use Rattle.run.specs.declared.known.Known.TheVariants.{Nothing}
 use Rattle.change.specs.Change.{most_parts, Change, has, line}
 use Rattle.run.specs.Run.{Verdict, heard, run_on, runs_on}
@@ -47,14 +47,14 @@ abbrev pub FullyBooked : Type 0
 FullyBooked =
     (t : Config) (es : List Event) →
     let q = replayed t empty es in
-    length q.running < t.benches → All (λ r. among r (held q) ≡ true) (useful_in t q)
+    length q.running < t.benches → AllByRecursion (λ r. among r (held q) ≡ true) (useful_in t q)
 
 -- At most as many runs run as there are benches. Each run that is running or known is useful, and none of them is running or known twice, or both.
 abbrev pub OnlyUsefulRuns : Type 0
 OnlyUsefulRuns =
     (t : Config) (es : List Event) →
     let q = replayed t empty es in
-    (length q.running ≤ t.benches) × All (λ r. among r (useful_in t q) ≡ true) (held q) × Different (held q)
+    (length q.running ≤ t.benches) × AllByRecursion (λ r. among r (useful_in t q) ≡ true) (held q) × Different (held q)
 
 -- The count of requested runs is that of the runs the log has. If nothing is rejected or withdrawn, no run is requested twice, at one event or at two, at most
 -- one is requested for each part of a change that landed or waits, and exactly one for each once nobody waits.
@@ -109,7 +109,7 @@ VerdictsFit =
     (t : Config) (es : List Event) →
     let q = replayed t empty es in
     (length q.verdicts + length q.running ≤ most_parts * t.depth)
-    × All (AheadBy q.landed t.depth) (held q)
+    × AllByRecursion (AheadBy q.landed t.depth) (held q)
     × (length q.landed ≤ most_landed) × (length q.waiting ≤ most_waiting) × (length q.rejected ≤ most_rejected)
     × (t.depth ≤ most_depth → (length q.verdicts < most_verdicts) × (t.benches ≤ most_benches → Fits q))
 

@@ -4,10 +4,10 @@ use borrow.Rule.Slice.PartMut.{put_mid}
 use Rattle.std.specs.Option.{option_map}
 use Rattle.std.proofs.lemmas.List.{length-take-le, length_push, append-nil}
 use Rattle.std.proofs.ByRecursion.{All-push}
-use Rattle.std.specs.List.{AllByRecursion as All}
+use Rattle.std.specs.List.{AllByRecursion}
 use Rattle.std.proofs.lemmas.List.FromFn.{fill_by_all}
 use Rattle.change.specs.Change.{Change, place_of, dropped, without}
-use Rattle.change.specs.Records.{change_row, change_width, changes_in, table, written, row_out}
+use Rattle.change.specs.Records.{change_row, change_width, changes_in, table, row_out}
 use Rattle.run.specs.Layout.{most_landed, most_waiting, most_rejected, benches_at, depth_at, landed_count, waiting_count, rejected_count, verdicts_count, running_count, requested_at, landed_at, waiting_at, rejected_at, queue_length}
 use Rattle.run.specs.Numbers.{Sections, sections, whole, landed_in, waiting_in, rejected_in, changes_section, with_changes, decode, RunsFit, Settled, Small}
 use Rattle.run.specs.State.{Queue}
@@ -189,7 +189,7 @@ fitting_fewer ys n number place h e =
       waiting = omega (arith, gone.1, w, fit.waiting);
       rejected = omega (arith, gone.1, w, fit.rejected);
       small_landed = fit.small_landed;
-      small_waiting = subst (All Small) (sym (dropped-at number ws place e).1) (all_without Small place ws fit.small_waiting);
+      small_waiting = subst (AllByRecursion Small) (sym (dropped-at number ws place e).1) (all_without Small place ws fit.small_waiting);
       small_rejected = fit.small_rejected;
     }
 

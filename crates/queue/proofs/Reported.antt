@@ -1,7 +1,7 @@
 -- Laws of recording a report: a verdict joins those held, and its run leaves the running.
 use Rattle.std.proofs.Common.{◌≡◌, ℕ, ◌+◌, ◌-◌, ◌*◌, ◌<◌, ◌≤◌, min, Bool, true, false, cond, eqb, List, [], ◌∷◌, ◌++◌, length, get_or, take, drop, set, sym, refl, ap, ◌∙◌, subst, arith, length-drop}
 use borrow.Rule.Slice.PartMut.{put_mid}
-use Rattle.std.specs.List.{AllByRecursion as All}
+use Rattle.std.specs.List.{AllByRecursion}
 use Rattle.std.proofs.lemmas.List.{drop-drop, get_or_append_left, get_or_at, get_or-take, take-append-le, length-take-le}
 use Rattle.std.proofs.ByRecursion.{All-append, All-push, All-take, All-drop, All-get_or, All-from_get_or}
 use Rattle.change.specs.Change.{Change, line, without}
@@ -9,7 +9,6 @@ use Rattle.change.specs.Records.{change_width, changes_in, fixed, rows, written,
 use Rattle.change.proofs.Rows.{Local, length-fixed, take-fixed, rows_take, length-rows, rows_out, rows_written, length-written, length-row_out}
 use Rattle.change.proofs.Tables.{get_d_rows}
 use Rattle.run.specs.declared.run.Run as declared
-use Rattle.run.specs.Run.{Run}
 use Rattle.run.specs.Limits.{most_following}
 use Rattle.run.specs.Records.{run_in, run_of, row_of, runs_in, run_width, verdict_in, verdict_row_of, verdicts_in, verdict_width}
 use Rattle.run.specs.Layout.{most_landed, most_waiting, most_rejected, most_verdicts, most_running, benches_at, depth_at, landed_count, waiting_count, rejected_count, verdicts_count, running_count, requested_at, landed_at, waiting_at, rejected_at, verdicts_at, running_at, queue_length}
@@ -57,14 +56,14 @@ head_local w wide xs ys le =
     λ i. record { part = a i; begins = b i }
 
 -- that runs fit, place by place and as a list
-heads_fit : (landed : List Change) (w n at : ℕ) (xs : List ℕ) → ((k : ℕ) → k < n → Begins landed (drop (at + w * k) xs)) → All (HeadFits landed) (rows head_in w n (drop at xs))
+heads_fit : (landed : List Change) (w n at : ℕ) (xs : List ℕ) → ((k : ℕ) → k < n → Begins landed (drop (at + w * k) xs)) → AllByRecursion (HeadFits landed) (rows head_in w n (drop at xs))
 heads_fit landed w n at xs fit =
     All-from_get_or (HeadFits landed) (rows head_in w n (drop at xs)) (head_in [])
     (λ k lt.
     let less : k < n = omega (arith, length-rows head_in w n (drop at xs)) in
     subst (HeadFits landed) (sym (get_d_rows head_in w n k (drop at xs) (head_in []) less ∙ ap head_in (drop-drop (w * k) at xs))) (fit k less))
 
-fit_heads : (landed : List Change) (w n at : ℕ) (xs : List ℕ) → All (HeadFits landed) (rows head_in w n (drop at xs)) → (k : ℕ) → k < n → Begins landed (drop (at + w * k) xs)
+fit_heads : (landed : List Change) (w n at : ℕ) (xs : List ℕ) → AllByRecursion (HeadFits landed) (rows head_in w n (drop at xs)) → (k : ℕ) → k < n → Begins landed (drop (at + w * k) xs)
 fit_heads landed w n at xs all k lt =
     subst (HeadFits landed) (get_d_rows head_in w n k (drop at xs) (head_in []) lt ∙ ap head_in (drop-drop (w * k) at xs))
     (All-get_or (HeadFits landed) (rows head_in w n (drop at xs)) k (head_in []) (omega (arith, length-rows head_in w n (drop at xs))) all)
@@ -225,12 +224,12 @@ module _
     settled-after : Settled zs
     settled-after =
         let fit = fitting_settled ys h in
-        let heads_v : All (HeadFits L) (rows head_in verdict_width n (drop verdicts_at ys)) = heads_fit L verdict_width n verdicts_at ys (λ k lt. h.verdicts_fit k (omega (arith, n-is))) in
-        let heads_r : All (HeadFits L) (rows head_in run_width m (drop running_at ys)) = heads_fit L run_width m running_at ys (λ k lt. h.running_fit k (omega (arith, m-is))) in
-        let all_v : All (HeadFits L) (rows head_in verdict_width (n + 1) (drop verdicts_at zs)) =
-        subst (All (HeadFits L)) (sym (verdict_rows head_in (head_local verdict_width (omega arith)))) (All-push (HeadFits L) (rows head_in verdict_width n (drop verdicts_at ys)) (head_in (verdict_row_of r good)) heads_v head_fits) in
-        let all_r : All (HeadFits L) (rows head_in run_width (m - 1) (drop running_at zs)) =
-        subst (All (HeadFits L)) (sym (running-rows head_in (head_local run_width (omega arith))))
+        let heads_v : AllByRecursion (HeadFits L) (rows head_in verdict_width n (drop verdicts_at ys)) = heads_fit L verdict_width n verdicts_at ys (λ k lt. h.verdicts_fit k (omega (arith, n-is))) in
+        let heads_r : AllByRecursion (HeadFits L) (rows head_in run_width m (drop running_at ys)) = heads_fit L run_width m running_at ys (λ k lt. h.running_fit k (omega (arith, m-is))) in
+        let all_v : AllByRecursion (HeadFits L) (rows head_in verdict_width (n + 1) (drop verdicts_at zs)) =
+        subst (AllByRecursion (HeadFits L)) (sym (verdict_rows head_in (head_local verdict_width (omega arith)))) (All-push (HeadFits L) (rows head_in verdict_width n (drop verdicts_at ys)) (head_in (verdict_row_of r good)) heads_v head_fits) in
+        let all_r : AllByRecursion (HeadFits L) (rows head_in run_width (m - 1) (drop running_at zs)) =
+        subst (AllByRecursion (HeadFits L)) (sym (running-rows head_in (head_local run_width (omega arith))))
         (All-append (HeadFits L) (take i (rows head_in run_width m (drop running_at ys))) (drop (i + 1) (rows head_in run_width m (drop running_at ys))) (All-take (HeadFits L) i (rows head_in run_width m (drop running_at ys)) heads_r)
         (All-drop (HeadFits L) (i + 1) (rows head_in run_width m (drop running_at ys)) heads_r)) in
         record {

@@ -1,5 +1,5 @@
 -- What the entry answers, and what the lent numbers are afterwards. Assumes nothing: these are definitions.
-use Rattle.std.specs.Prelude.{◌≡◌, ℕ, ◌-◌, List, length, take, drop, Some, None, Ok, Err, Result}
+use Rattle.std.specs.Prelude.{◌≡◌, ℕ, List, length, drop, Some, None, Ok, Err, Result}
 use Rattle.run.specs.Layout.{queue_length}
 use Rattle.run.specs.State.{Config, Queue, empty}
 use Rattle.queue.specs.Queue.{step}

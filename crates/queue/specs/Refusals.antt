@@ -1,5 +1,5 @@
 -- Which refusal a lent queue and an event meet first. Assumes nothing: these are definitions.
-use Rattle.std.specs.Prelude.{ℕ, zero, suc, ◌+◌, ◌-◌, Bool, cond, not, ◌&&◌, List, length, drop, Some, None, Ok, Err, Option, Result, nat_le, nat_lt, slice_index}
+use Rattle.std.specs.Prelude.{ℕ, zero, suc, ◌+◌, Bool, cond, not, ◌&&◌, List, length, drop, Some, None, Ok, Err, Option, Result, nat_le, nat_lt, slice_index}
 use Rattle.std.specs.Option.{option_map}
 use Rattle.change.specs.Change.{Change, most_parts, line, numbered, fault}
 use Rattle.change.specs.Records.{change_in, change_width}

@@ -1,7 +1,7 @@
 -- Laws of numbers in which other changes have landed, wait or are rejected, while verdicts, running and what lies behind stay as they stood.
-use Rattle.std.proofs.Common.{◌≡◌, ℕ, zero, suc, ◌+◌, ◌-◌, ◌*◌, ◌<◌, ◌≤◌, min, eqb, List, [], ◌∷◌, ◌++◌, length, get_or, take, drop, set, sym, refl, ap, ◌∙◌, subst, arith, length-append, length-take}
+use Rattle.std.proofs.Common.{◌≡◌, ℕ, zero, suc, ◌+◌, ◌*◌, ◌<◌, ◌≤◌, min, eqb, List, [], ◌∷◌, ◌++◌, length, get_or, take, drop, set, sym, refl, ap, ◌∙◌, subst, arith, length-append, length-take}
 use borrow.Rule.Slice.PartMut.{put_mid}
-use Rattle.std.specs.List.{AllByRecursion as All}
+use Rattle.std.specs.List.{AllByRecursion}
 use Rattle.std.proofs.lemmas.List.{drop-drop, take-append-le}
 use Rattle.change.specs.Change.{Change, line}
 use Rattle.change.specs.Records.{change_in, change_row, change_width, changes_in}
@@ -30,7 +30,7 @@ pub count-rejected : (xs : List ℕ) → length (rejected_in xs) ≡ get_or xs r
 count-rejected xs = length-rows change_in change_width (get_or xs rejected_count 0) (drop rejected_at xs)
 
 -- a change that is read has no more parts than its record has places for
-pub small_changes : (n : ℕ) (xs : List ℕ) → All Small (changes_in n xs)
+pub small_changes : (n : ℕ) (xs : List ℕ) → AllByRecursion Small (changes_in n xs)
 small_changes zero xs = tt
 small_changes (suc n) xs = (omega (arith, length-take (min (get_or xs 1 0) 8) (drop 2 xs)), small_changes n (drop change_width xs))
 
@@ -39,9 +39,9 @@ pub record Fitting (L W R : List Change) : Type 0 where
   pub landed : length L + length W ≤ most_landed
   pub waiting : length W ≤ most_waiting
   pub rejected : length R + length W ≤ most_rejected
-  pub small_landed : All Small L
-  pub small_waiting : All Small W
-  pub small_rejected : All Small R
+  pub small_landed : AllByRecursion Small L
+  pub small_waiting : AllByRecursion Small W
+  pub small_rejected : AllByRecursion Small R
 
 pub fitting_settled : (xs : List ℕ) → Settled xs → Fitting (landed_in xs) (waiting_in xs) (rejected_in xs)
 fitting_settled xs h = record {

@@ -1,6 +1,6 @@
 -- The two round trips: a state that fits is read back from its numbers, and a tidy queue is written back as it was.
 use Rattle.std.proofs.Common.{◌≡◌, ℕ, zero, suc, ◌+◌, ◌*◌, ◌<◌, ◌≤◌, List, [], ◌∷◌, ◌++◌, length, get_or, take, drop, sym, refl, ap, ◌∙◌, mul-zero, mul-suc, arith, length-drop, take-append-drop, length-take, take-add}
-use Rattle.std.specs.List.{flat_map, AllByRecursion as All}
+use Rattle.std.specs.List.{flat_map, AllByRecursion}
 use Rattle.std.proofs.lemmas.List.{length-take-le}
 use Rattle.std.proofs.lemmas.List.FromFn.{fill_by_all}
 use Rattle.change.specs.Change.{Change}
@@ -36,7 +36,7 @@ module _ {A : Type 0} {f : List ℕ → A} {row : A → List ℕ} {w : ℕ} {P :
   rows_section n m xs few long = rows_take f w r.local n m xs few long
 
   -- what was written in a section is read back
-  pub read_section : (m : ℕ) (xs : List ℕ) (ys : List A) → take m xs ≡ table row m ys → w * length ys ≤ m → All P ys → rows f w (length ys) xs ≡ ys
+  pub read_section : (m : ℕ) (xs : List ℕ) (ys : List A) → take m xs ≡ table row m ys → w * length ys ≤ m → AllByRecursion P ys → rows f w (length ys) xs ≡ ys
   read_section m xs ys e few all =
       let l : length (take m xs) ≡ m = ap length e ∙ length-table row w r.long m ys few in
       sym (rows_section (length ys) m xs few (omega (arith, length-take m xs))) ∙ (ap (rows f w (length ys)) e ∙ rows-table f row w P r.long r.reads m ys all)

@@ -1,9 +1,8 @@
 -- The queue as numbers: its sections, what they say, and how a state is written. Assumes nothing: these are definitions.
 use Rattle.std.specs.Prelude.{◌≡◌, ℕ, ◌+◌, ◌-◌, ◌*◌, ◌<◌, ◌≤◌, List, [], ◌∷◌, ◌++◌, length, take, drop, replicate, slice_index, slice_index_or}
-use Rattle.std.specs.List.{AllByRecursion as All}
+use Rattle.std.specs.List.{AllByRecursion}
 use Rattle.change.specs.Change.{Change, most_parts, line}
 use Rattle.change.specs.Records.{change_in, changes_in, change_row, change_width, table}
-use Rattle.run.specs.Run.{Run}
 use Rattle.run.specs.Records.{run_in, runs_in, verdict_in, verdicts_in, run_row, verdict_row, run_width, verdict_width, Ahead, AheadVerdict}
 use Rattle.run.specs.Layout.{most_landed, most_waiting, most_rejected, most_verdicts, most_running, benches_at, depth_at, landed_count, waiting_count, rejected_count, verdicts_count, running_count, requested_at, landed_at, waiting_at, rejected_at, verdicts_at, running_at, queue_length}
 use Rattle.run.specs.State.{Config, Queue}
@@ -120,11 +119,11 @@ pub record Fits (q : Queue) : Type 0 where
   pub rejected : length q.rejected ≤ most_rejected
   pub verdicts : length q.verdicts ≤ most_verdicts
   pub running : length q.running ≤ most_running
-  pub small_landed : All Small q.landed
-  pub small_waiting : All Small q.waiting
-  pub small_rejected : All Small q.rejected
-  pub verdicts_ahead : All (AheadVerdict q.landed) q.verdicts
-  pub running_ahead : All (Ahead q.landed) q.running
+  pub small_landed : AllByRecursion Small q.landed
+  pub small_waiting : AllByRecursion Small q.waiting
+  pub small_rejected : AllByRecursion Small q.rejected
+  pub verdicts_ahead : AllByRecursion (AheadVerdict q.landed) q.verdicts
+  pub running_ahead : AllByRecursion (Ahead q.landed) q.running
 
 -- decoding what was encoded gives it back
 abbrev pub DecodeEncode : Type 0

@@ -1,4 +1,4 @@
-use Rattle.std.proofs.Common.{map, length, take, drop, ap, arith}
+use Rattle.std.proofs.Common.{map, length, take, ap, arith}
 use Rattle.std.proofs.lemmas.List.{drop_all}
 use Rattle.change.specs.Records.{change_of}
 use Rattle.audits.specs.Audit.{states_from}

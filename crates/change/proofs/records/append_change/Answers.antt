@@ -1,4 +1,4 @@
-use Rattle.std.proofs.Common.{◌+◌, ◌*◌, length, arith}
+use Rattle.std.proofs.Common.{◌+◌, ◌*◌, arith}
 use Rattle.change.specs.Records.{change_row, change_of}
 use Rattle.change.proofs.Changes.{length-change_row}
 use Rattle.change.proofs.Rows.{put_written}

@@ -1,4 +1,4 @@
-use Rattle.std.proofs.Common.{ℕ, length, get_or, replicate, ap, arith}
+use Rattle.std.proofs.Common.{ℕ, length, ap, arith}
 use lib.ListN.{get_or-replicate}
 use Rattle.change.specs.Change.{has, line}
 use Rattle.change.specs.Records.{change_of, change_in}

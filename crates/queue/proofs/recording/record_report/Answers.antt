@@ -2,7 +2,7 @@ use Rattle.std.proofs.Common.{◌≡◌, ℕ, ◌+◌, ◌-◌, ◌*◌, List, g
 use Rattle.run.specs.Records.{run_in, run_width}
 use Rattle.run.specs.Layout.{running_at}
 use Rattle.run.specs.State.{Queue}
-use Rattle.queue.specs.Queue.{answered, recorded, report}
+use Rattle.queue.specs.Queue.{answered, recorded}
 use Rattle.queue.proofs.Recorded.{says-next, says_same}
 use Rattle.queue.proofs.Reported.{says_reported}
 use Rattle.queue.proofs.recording.record_report.Goals as goal

@@ -1,6 +1,6 @@
-use Rattle.std.proofs.Common.{◌+◌, ◌*◌, length, arith}
+use Rattle.std.proofs.Common.{◌+◌, ◌*◌, arith}
 use Rattle.change.proofs.Rows.{put_written}
-use Rattle.run.specs.Records.{row_of, verdict_row_of, verdict_width}
+use Rattle.run.specs.Records.{verdict_row_of, verdict_width}
 use Rattle.run.proofs.Rows.{length-verdict_row_of}
 use Rattle.run.proofs.records.append_verdict.Goals as goal
 

@@ -1,7 +1,7 @@
 use Rattle.std.proofs.Common.{◌≡◌, ◌≤◌, [], length, take, sym, ap, ◌∙◌, arith}
 use Rattle.std.proofs.lemmas.List.{length-take-le, drop_all}
 use Rattle.std.proofs.lemmas.Bool.{lt-ltb, le-ltb}
-use Rattle.change.specs.Change.{Change, fault, fault_from}
+use Rattle.change.specs.Change.{fault, fault_from}
 use Rattle.change.specs.Records.{change_of}
 use Rattle.change.specs.declared.change.Change as declared
 use Rattle.change.proofs.Seen.{fault-later, fault_large, fault_again, fault_by_parts}

@@ -1,4 +1,4 @@
-use Rattle.std.proofs.Common.{ℕ, Bool, cond, List, [], ◌∷◌, ◌++◌, sym, refl, ap, ◌∙◌, append-nil}
+use Rattle.std.proofs.Common.{Bool, cond, [], ◌∷◌, ◌++◌, sym, refl, ap, ◌∙◌, append-nil}
 use Rattle.std.proofs.lemmas.Result.{IfOk-weaker}
 use Rattle.queue.specs.declared.reply.Reply.{Reply}
 use Rattle.promises.specs.Lent.{is_done}

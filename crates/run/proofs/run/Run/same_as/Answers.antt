@@ -1,4 +1,4 @@
-use Rattle.std.proofs.Common.{◌≡◌, ◌-◌, ◌≤◌, List, length, drop, sym, ap, arith}
+use Rattle.std.proofs.Common.{◌≡◌, ◌≤◌, List, length, drop, sym, ap, arith}
 use Rattle.change.specs.Change.{Change, line}
 use Rattle.change.specs.Records.{change_in, change_width, changes_in}
 use Rattle.change.proofs.Rows.{length-rows}

@@ -1,4 +1,4 @@
-use Rattle.std.proofs.Common.{◌≡◌, ℕ, ◌<◌, ◌≤◌, min, Bool, true, false, leb, List, ◌++◌, length, take, sym, refl, ap, ◌∙◌, arith, take_all}
+use Rattle.std.proofs.Common.{◌≡◌, ℕ, min, Bool, true, false, leb, List, ◌++◌, length, take, sym, refl, ap, ◌∙◌, arith, take_all}
 use Rattle.std.proofs.lemmas.Bool.{leb-true, leb-false}
 use Rattle.change.specs.Change.{line}
 use Rattle.run.specs.Run.{Run}
