@@ -30,16 +30,30 @@ def texts():
     return found
 
 
+def below():
+    """Each crate of crates.txt, with itself and the crates below it."""
+    deps = {}
+    for line in open("crates.txt", encoding="utf-8"):
+        name, colon, used = line.split("#")[0].partition(":")
+        if colon:
+            deps[name.split()[0]] = used.split()
+
+    def reached(name):
+        return {name}.union(*(reached(d) for d in deps.get(name, []) if d in deps))
+
+    return {name: reached(name) for name in deps}
+
+
 def declared():
-    """The names that the antt texts declare with a dash: which are definitions, which are fields, which are local."""
-    names, functions = {}, set(LIBRARY)
+    """The names that the antt texts declare with a dash, each with its crates and what it is there; and each crate's definitions and fields."""
+    names, functions = {}, {}
     for path in texts():
-        lemmas = "/proofs/" in path
+        crate, lemmas = path.split("/")[1], "/proofs/" in path
         in_record = False
         for line in open(path, encoding="utf-8"):
             headed = HEADED.match(line)
             if headed:
-                names.setdefault(headed[1], set()).add("type")
+                names.setdefault(headed[1], set()).add((crate, "type"))
                 in_record = True
                 continue
             if line.strip() and not line[0].isspace():
@@ -48,11 +62,13 @@ def declared():
             if found and not found[4].startswith("goal."):
                 plain = not lemmas or "abbrev" in found[2] or "unfoldable" in found[2]
                 kind = "field" if in_record and found[1] else "function" if plain else "lemma"
-                names.setdefault(found[3], set()).add(kind)
-                if kind != "lemma":
-                    functions.add(found[3])
+                if found[3][0].isupper() and "Type" in found[4]:
+                    kind = "type"
+                names.setdefault(found[3], set()).add((crate, kind))
+                if kind in ("field", "function"):
+                    functions.setdefault(crate, set()).add(found[3])
             for local in LOCAL.findall(line):
-                names.setdefault(local, set()).add("local")
+                names.setdefault(local, set()).add((crate, "local"))
     return {n: k for n, k in names.items() if "-" in n.strip("-")}, functions
 
 
@@ -86,16 +102,19 @@ def lemma(name, functions, types):
 
 def table():
     names, functions = declared()
-    types = {n for n, k in names.items() if n[0].isupper()}
+    types = {n for n, k in names.items() if "type" in {kind for _, kind in k}}
+    visible = {crate: LIBRARY.union(*(functions.get(c, set()) for c in reached)) for crate, reached in below().items()}
     turned = {}
-    for name, kinds in names.items():
+    for name, places in names.items():
+        kinds = {kind for _, kind in places}
         if name in types:
             turned[name] = camel(name)
-        elif kinds <= {"lemma", "local"} and "lemma" in kinds:
-            turned[name] = snake(name) if name[0].upper() + name[1:] in types else lemma(name, functions, types)
+        elif kinds <= {"lemma", "local"} and "lemma" in kinds and name[:1].upper() + name[1:] not in types:
+            spelt = {lemma(name, visible[crate], types) for crate, kind in places if kind == "lemma"}
+            turned[name] = min(spelt, key=lambda it: it.count("-"))
         else:
-            turned[name] = snake(name)
-    return {n: t for n, t in turned.items() if n != t}, {n for n, k in names.items() if "field" in k}
+            turned[name] = snake(name[:1].lower() + name[1:])
+    return {n: t for n, t in turned.items() if n != t}, {n for n, k in names.items() if "field" in {kind for _, kind in k}}
 
 
 def respell(text, turned, fields, walked):

@@ -50,8 +50,8 @@ module _ (xs : List code.Verdict) (i : ℕ) (x : code.Verdict) (r : Run) (k : Kn
   read_bad e g = read_same e ∙ ap (λ s. cond s (reading Good r (map verdict_of (drop (i + 1) xs))) Bad) g
 
 -- a test that decides whether two lists are equal says what same_list says
-pub same_list-decided : (r : Bool) (xs ys : List ℕ) → Decides r (xs ≡ ys) → r ≡ same_list xs ys
-same_list-decided r xs ys d = go r (same_list xs ys) d.0 d.1 (same_list_true xs ys) (λ e. ap (λ l. same_list xs l) (sym e) ∙ same_list_refl xs)
+pub same_list_decided : (r : Bool) (xs ys : List ℕ) → Decides r (xs ≡ ys) → r ≡ same_list xs ys
+same_list_decided r xs ys d = go r (same_list xs ys) d.0 d.1 (same_list_true xs ys) (λ e. ap (λ l. same_list xs l) (sym e) ∙ same_list_refl xs)
   where
     go : (r s : Bool) → (r ≡ true → xs ≡ ys) → (xs ≡ ys → r ≡ true) → (s ≡ true → xs ≡ ys) → (xs ≡ ys → s ≡ true) → r ≡ s
     go true s a b c e = sym (e (a refl))

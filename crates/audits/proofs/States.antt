@@ -14,9 +14,9 @@ use Rattle.audits.specs.Audit.{fault_of, faulty, first_fault, log_says, states_a
 use Rattle.audits.specs.declared.fault.Fault as code
 
 -- states behind those that are sound; states behind one that is not
-pub fault-later : (vs : List Verdict) (xs ys : List Run) → is_some (first_fault vs xs) ≡ false → first_fault vs (xs ++ ys) ≡ first_fault vs ys
-fault-later vs [] ys e = refl
-fault-later vs (r ∷ rs) ys e = go (fault-later vs rs ys) (log_says r vs) e
+pub fault_later : (vs : List Verdict) (xs ys : List Run) → is_some (first_fault vs xs) ≡ false → first_fault vs (xs ++ ys) ≡ first_fault vs ys
+fault_later vs [] ys e = refl
+fault_later vs (r ∷ rs) ys e = go (fault_later vs rs ys) (log_says r vs) e
   where
     go : (is_some (first_fault vs rs) ≡ false → first_fault vs (rs ++ ys) ≡ first_fault vs ys) → (k : Known) →
         is_some (faulty k r (first_fault vs rs)) ≡ false → faulty k r (first_fault vs (rs ++ ys)) ≡ first_fault vs ys
@@ -41,7 +41,7 @@ module _ (vs : List Verdict) (xs ys : List Run) (found : Option code.Fault) (is 
   still (Some f) = refl
 
   pub found_none : false ≡ is_some found → first_fault vs (xs ++ ys) ≡ first_fault vs ys
-  found_none e = fault-later vs xs ys (ap is_some (sym is) ∙ (still found ∙ sym e))
+  found_none e = fault_later vs xs ys (ap is_some (sym is) ∙ (still found ∙ sym e))
 
   pub found_one : true ≡ is_some found → option_map fault_of found ≡ first_fault vs (xs ++ ys)
   found_one e = is ∙ sym (fault_here vs xs ys (ap is_some (sym is) ∙ (still found ∙ sym e)))
@@ -53,8 +53,8 @@ states_at_more main c i lt long =
     let l : length (take c.count c.parts) ≡ c.count = length-take-le c.count c.parts (omega arith) in
     ap (states_at main) (drop_more (take c.count c.parts) i 0 (omega arith) ∙ ap (λ p. p ∷ drop (i + 1) (take c.count c.parts)) (get_or-take c.count c.parts i 0 lt))
 
-pub states_at-all : (main : List Change) (c : declared.Change) (i : ℕ) → c.count ≤ i → length c.parts ≡ 8 → states_at main (drop i (take c.count c.parts)) ≡ []
-states_at-all main c i le long =
+pub states_at_all : (main : List Change) (c : declared.Change) (i : ℕ) → c.count ≤ i → length c.parts ≡ 8 → states_at main (drop i (take c.count c.parts)) ≡ []
+states_at_all main c i le long =
     let l : length (take c.count c.parts) ≡ c.count = length-take-le c.count c.parts (omega arith) in
     ap (states_at main) (drop_all i (take c.count c.parts) (omega arith))
 

@@ -62,8 +62,8 @@ pub number_at : (xs : List ℕ) (k : ℕ) → (change_in (drop k xs)).number ≡
 number_at xs k = rw (get_or-drop, add-zero)
 
 -- a change is in the first ten numbers
-pub change_in-row : (xs : List ℕ) (w : ℕ) → 10 ≤ w → change_in (take w xs) ≡ change_in xs
-change_in-row xs w le =
+pub change_in_row : (xs : List ℕ) (w : ℕ) → 10 ≤ w → change_in (take w xs) ≡ change_in xs
+change_in_row xs w le =
     let a : get_or (take w xs) 0 0 ≡ get_or xs 0 0 = get_or-take w xs 0 0 (omega arith) in
     let b : get_or (take w xs) 1 0 ≡ get_or xs 1 0 = get_or-take w xs 1 0 (omega arith) in
     let v : w ≡ 2 + (w - 2) = omega arith in
@@ -72,13 +72,13 @@ change_in-row xs w le =
     cc
 
 -- a row that is lent on as a part
-pub change_in-part : (xs : List ℕ) (k : ℕ) → change_in (take (k + 10 - k) (drop k xs)) ≡ change_in (drop k xs)
-change_in-part xs k = change_in-row (drop k xs) (k + 10 - k) (omega arith)
+pub change_in_part : (xs : List ℕ) (k : ℕ) → change_in (take (k + 10 - k) (drop k xs)) ≡ change_in (drop k xs)
+change_in_part xs k = change_in_row (drop k xs) (k + 10 - k) (omega arith)
 
-pub change_in-local : (w : ℕ) → 10 ≤ w → Local change_in w
-change_in-local w le xs ys h =
-    let a : change_in (take 10 (xs ++ ys)) ≡ change_in (xs ++ ys) = change_in-row (xs ++ ys) 10 (omega arith) in
-    let b : change_in (take 10 xs) ≡ change_in xs = change_in-row xs 10 (omega arith) in
+pub change_in_local : (w : ℕ) → 10 ≤ w → Local change_in w
+change_in_local w le xs ys h =
+    let a : change_in (take 10 (xs ++ ys)) ≡ change_in (xs ++ ys) = change_in_row (xs ++ ys) 10 (omega arith) in
+    let b : change_in (take 10 xs) ≡ change_in xs = change_in_row xs 10 (omega arith) in
     let t : take 10 (xs ++ ys) ≡ take 10 xs = take-append-le 10 xs ys (omega arith) in
     cc
 
@@ -95,8 +95,8 @@ place_here xs base n i p lt e =
     ap (λ l. option_map (λ k. i + k) (place_of p l)) (rest_more change_in change_width xs base n i lt)
     ∙ (ap (λ b. option_map (λ k. i + k) (cond b (Some 0) (option_map suc (place_of p (rest change_in change_width xs base n (i + 1)))))) (eq-eqb _ _ (number_at xs (base + change_width * i) ∙ e)) ∙ ap Some (add-zero i))
 
-pub place-later : (xs : List ℕ) (base n i p : ℕ) → i < n → (get_or xs (base + change_width * i) 0 ≡ p → ⊥) → place_rest p xs base n i ≡ place_rest p xs base n (i + 1)
-place-later xs base n i p lt ne =
+pub place_later : (xs : List ℕ) (base n i p : ℕ) → i < n → (get_or xs (base + change_width * i) 0 ≡ p → ⊥) → place_rest p xs base n i ≡ place_rest p xs base n (i + 1)
+place_later xs base n i p lt ne =
     ap (λ l. option_map (λ k. i + k) (place_of p l)) (rest_more change_in change_width xs base n i lt)
     ∙ (ap (λ b. option_map (λ k. i + k) (cond b (Some 0) (option_map suc (place_of p (rest change_in change_width xs base n (i + 1))))))
     (ne_eqb _ _ (λ e. ne (sym (number_at xs (base + change_width * i)) ∙ e)))
@@ -110,9 +110,9 @@ place_first xs base n p = ap (λ l. option_map (λ k. 0 + k) (place_of p l)) (re
     unmoved (Some k) = ap Some (omega arith)
 
 -- a number has a place where it is used, and nowhere else
-pub place-numbered : (p : ℕ) (cs : List Change) → is_some (place_of p cs) ≡ numbered p cs
-place-numbered p [] = refl
-place-numbered p (c ∷ cs) = go (place-numbered p cs) (eqb c.number p)
+pub place_numbered : (p : ℕ) (cs : List Change) → is_some (place_of p cs) ≡ numbered p cs
+place_numbered p [] = refl
+place_numbered p (c ∷ cs) = go (place_numbered p cs) (eqb c.number p)
   where
     still : (r : Option ℕ) → is_some (option_map suc r) ≡ is_some r
     still None = refl
@@ -135,9 +135,9 @@ module _ (w : ℕ) (xs : List ℕ) (base n i p : ℕ) (x : Change) (lt : i < n) 
   pub line_no : has x.parts p ≡ false → line p (rest change_in w xs base n i) ≡ line p (rest change_in w xs base n (i + 1))
   line_no e = ap (line p) (rest_more change_in w xs base n i lt) ∙ (ap (λ y. line p (y ∷ rest change_in w xs base n (i + 1))) (sym is) ∙ rw e)
 
-pub count-rest : (w : ℕ) (xs : List ℕ) (base n i p : ℕ) (x : Change) → i < n → x ≡ change_in (drop (base + w * i) xs) →
+pub count_rest : (w : ℕ) (xs : List ℕ) (base n i p : ℕ) (x : Change) → i < n → x ≡ change_in (drop (base + w * i) xs) →
     length (line p (rest change_in w xs base n i)) ≡ cond (has x.parts p) 1 0 + length (line p (rest change_in w xs base n (i + 1)))
-count-rest w xs base n i p x lt is =
+count_rest w xs base n i p x lt is =
     ⊎_elim (λ e. ap length (line_yes w xs base n i p x lt is e) ∙ rw e (omega arith)) (λ e. ap length (line_no w xs base n i p x lt is e) ∙ rw e (omega arith)) (cases_Bool (has x.parts p))
 
 pub cond_le : (b : Bool) → cond b 1 0 ≤ 1

@@ -49,19 +49,19 @@ rows_append f w (suc m) n xs =
 abbrev pub Local : {A : Type 0} → (List ℕ → A) → ℕ → Type 0
 Local f w = (xs ys : List ℕ) → w ≤ length xs → f (xs ++ ys) ≡ f xs
 
-pub rows-local : {A : Type 0} (f : List ℕ → A) (w : ℕ) → Local f w → (n : ℕ) (xs ys : List ℕ) → w * n ≤ length xs → rows f w n (xs ++ ys) ≡ rows f w n xs
-rows-local f w loc zero xs ys le = refl
-rows-local f w loc (suc n) xs ys le =
+pub rows_local : {A : Type 0} (f : List ℕ → A) (w : ℕ) → Local f w → (n : ℕ) (xs ys : List ℕ) → w * n ≤ length xs → rows f w n (xs ++ ys) ≡ rows f w n xs
+rows_local f w loc zero xs ys le = refl
+rows_local f w loc (suc n) xs ys le =
     let m = mul-suc w n in
     let d : drop w (xs ++ ys) ≡ drop w xs ++ ys = drop-append-le w xs ys (omega arith) in
     let l : w * n ≤ length (drop w xs) = simp length-drop (omega arith) in
     let h : f (xs ++ ys) ≡ f xs = loc xs ys (omega arith) in
-    rw (d, h) (ap (λ r. f xs ∷ r) (rows-local f w loc n (drop w xs) ys l))
+    rw (d, h) (ap (λ r. f xs ∷ r) (rows_local f w loc n (drop w xs) ys l))
 
 -- n records are read from the front that holds them
 pub rows_take : {A : Type 0} (f : List ℕ → A) (w : ℕ) → Local f w → (n k : ℕ) (xs : List ℕ) → w * n ≤ k → k ≤ length xs → rows f w n (take k xs) ≡ rows f w n xs
 rows_take f w loc n k xs few le =
-    sym (rows-local f w loc n (take k xs) (drop k xs) (omega (arith, length-take-le k xs le))) ∙ ap (rows f w n) (take-append-drop k xs)
+    sym (rows_local f w loc n (take k xs) (drop k xs) (omega (arith, length-take-le k xs le))) ∙ ap (rows f w n) (take-append-drop k xs)
 
 pub length-rows : {A : Type 0} (f : List ℕ → A) (w n : ℕ) (xs : List ℕ) → length (rows f w n xs) ≡ n
 length-rows f w zero xs = refl
@@ -143,8 +143,8 @@ rows_out {A} f w loc n i xs lt le =
     let lB : length (take (w * m) (drop (w * (i + 1)) xs)) ≡ w * m = length-take-le (w * m) (drop (w * (i + 1)) xs) (omega arith) in
     let Z : List ℕ = replicate w 0 ++ drop (w * n) xs in
     let BZ : List ℕ = take (w * m) (drop (w * (i + 1)) xs) ++ Z in
-    let front : rows f w i (take (w * i) xs ++ BZ) ≡ rows f w i xs = rows-local f w loc i (take (w * i) xs) BZ (omega arith) ∙ rows_take f w loc i (w * i) xs (omega arith) (omega arith) in
-    let back : rows f w m BZ ≡ rows f w m (drop (w * (i + 1)) xs) = rows-local f w loc m (take (w * m) (drop (w * (i + 1)) xs)) Z (omega arith) ∙ rows_take f w loc m (w * m) (drop (w * (i + 1)) xs) (omega arith) (omega arith) in
+    let front : rows f w i (take (w * i) xs ++ BZ) ≡ rows f w i xs = rows_local f w loc i (take (w * i) xs) BZ (omega arith) ∙ rows_take f w loc i (w * i) xs (omega arith) (omega arith) in
+    let back : rows f w m BZ ≡ rows f w m (drop (w * (i + 1)) xs) = rows_local f w loc m (take (w * m) (drop (w * (i + 1)) xs)) Z (omega arith) ∙ rows_take f w loc m (w * m) (drop (w * (i + 1)) xs) (omega arith) (omega arith) in
     let seam : drop (w * i) (take (w * i) xs ++ BZ) ≡ BZ = drop_at (take (w * i) xs) BZ (w * i) lA in
     let left : rows f w (n - 1) (row_out w n i xs) ≡ rows f w i xs ++ rows f w m (drop (w * (i + 1)) xs) =
     ap (λ u. rows f w u (row_out w n i xs)) k1 ∙ (rows_append f w i m (take (w * i) xs ++ BZ) ∙ rw (seam, front, back)) in
@@ -160,7 +160,7 @@ pub rows_written : {A : Type 0} (f : List ℕ → A) (w : ℕ) → Local f w →
     rows f w (n + 1) (written k row xs) ≡ rows f w n xs ++ f row ∷ []
 rows_written f w loc n k row xs long e le =
     let l = length-take-le k xs (omega arith) in
-    let front : rows f w n (written k row xs) ≡ rows f w n xs = rows-local f w loc n (take k xs) (row ++ drop (k + length row) xs) (omega arith) ∙ rows_take f w loc n k xs (omega arith) (omega arith) in
+    let front : rows f w n (written k row xs) ≡ rows f w n xs = rows_local f w loc n (take k xs) (row ++ drop (k + length row) xs) (omega arith) ∙ rows_take f w loc n k xs (omega arith) (omega arith) in
     let d : drop (w * n) (written k row xs) ≡ row ++ drop (k + length row) xs = drop_at (take k xs) (row ++ drop (k + length row) xs) (w * n) (omega arith) in
     let h : f (row ++ drop (k + length row) xs) ≡ f row = loc row (drop (k + length row) xs) (omega arith) in
     rows_append f w n 1 (written k row xs) ∙ rw (front, d, h)

@@ -46,9 +46,9 @@ module _ (ps : List ℕ) (i q : ℕ) (lt : i < length ps) (is : q ≡ get_or ps 
   seen_new : (p : ℕ) → q ≡ p → has (take (i + 1) ps) p ≡ true
   seen_new p e = ap (λ u. has (take (i + 1) ps) u) (sym e) ∙ (ap (λ l. has l q) seen ∙ push_yes (take i ps) q)
 
-  pub count-step : (cs es : List ℕ) (p : ℕ) → q < length cs → has (take i ps) q ≡ false → get_or cs p 0 ≡ get_or es p 0 + cond (has (take i ps) p) 1 0 →
+  pub count_step : (cs es : List ℕ) (p : ℕ) → q < length cs → has (take i ps) q ≡ false → get_or cs p 0 ≡ get_or es p 0 + cond (has (take i ps) p) 1 0 →
       get_or (set cs q (get_or cs q 0 + 1)) p 0 ≡ get_or es p 0 + cond (has (take (i + 1) ps) p) 1 0
-  count-step cs es p lq no-yet h = ⊎_elim
+  count_step cs es p lq no-yet h = ⊎_elim
       (λ e.
       let a : get_or (set cs q (get_or cs q 0 + 1)) p 0 ≡ get_or cs q 0 + 1 = ap (λ u. get_or (set cs q (get_or cs q 0 + 1)) u 0) (sym e) ∙ get_or-set_same cs q (get_or cs q 0 + 1) 0 lq in
       let b : get_or cs q 0 ≡ get_or es p 0 + 0 = ap (λ u. get_or cs u 0) e ∙ (h ∙ ap (λ u. get_or es p 0 + cond u 1 0) (ap (λ u. has (take i ps) u) (sym e) ∙ no-yet)) in
@@ -64,8 +64,8 @@ module _ (ps : List ℕ) (i q : ℕ) (lt : i < length ps) (is : q ≡ get_or ps 
       (cases_eq q p)
 
   -- the fault of the parts from the i-th on, where the i-th is sound, where it is not
-  fault-sound : (ltb q part_limit && not (has (take i ps) q)) ≡ true → fault_from (take i ps) i (drop i ps) ≡ fault_from (take (i + 1) ps) (i + 1) (drop (i + 1) ps)
-  fault-sound e =
+  fault_sound : (ltb q part_limit && not (has (take i ps) q)) ≡ true → fault_from (take i ps) i (drop i ps) ≡ fault_from (take (i + 1) ps) (i + 1) (drop (i + 1) ps)
+  fault_sound e =
       ap (fault_from (take i ps) i) (drop_more ps i 0 lt)
       ∙ (ap (λ u. fault_from (take i ps) i (u ∷ drop (i + 1) ps)) (sym is)
       ∙ (ap (λ b. cond b (fault_from (q ∷ take i ps) (suc i) (drop (i + 1) ps)) (Some i)) e
@@ -88,9 +88,9 @@ module _ (xs : List ℕ) (n i : ℕ) (lt : i < n) (le : n ≤ length xs) where
   before : has (take i (take n xs)) (get_or xs i 0) ≡ has (take i xs) (get_or xs i 0)
   before = ap (λ l. has l (get_or xs i 0)) (take-take i n xs (omega arith))
 
-  pub fault-later : ltb (get_or xs i 0) part_limit ≡ true → has (take i xs) (get_or xs i 0) ≡ false →
+  pub fault_later : ltb (get_or xs i 0) part_limit ≡ true → has (take i xs) (get_or xs i 0) ≡ false →
       fault_from (take i (take n xs)) i (drop i (take n xs)) ≡ fault_from (take (i + 1) (take n xs)) (i + 1) (drop (i + 1) (take n xs))
-  fault-later small new = fault-sound (take n xs) i (get_or xs i 0) within same (and_from _ _ small (not_from_false _ (before ∙ new)))
+  fault_later small new = fault_sound (take n xs) i (get_or xs i 0) within same (and_from _ _ small (not_from_false _ (before ∙ new)))
 
   pub fault_large : ltb (get_or xs i 0) part_limit ≡ false → fault_from (take i (take n xs)) i (drop i (take n xs)) ≡ Some i
   fault_large large = fault_here (take n xs) i (get_or xs i 0) within same (and_left _ _ large)

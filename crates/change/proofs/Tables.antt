@@ -51,8 +51,8 @@ module _ {A : Type 0} (row : A → List ℕ) (w : ℕ) (len : (x : A) → length
       ap (flat_map row) (sym (take-append-drop i xs)) ∙ (joined-append row (take i xs) (drop i xs) ∙ ap (λ l. flat_map row (take i xs) ++ flat_map row l) (drop_more xs i d lt))
 
   -- a row taken out
-  pub table-out : (n i : ℕ) (xs : List A) (d : A) → i < length xs → w * length xs ≤ n → row_out w (length xs) i (table row n xs) ≡ table row n (take i xs ++ drop (i + 1) xs)
-  table-out n i xs d lt le =
+  pub table_out : (n i : ℕ) (xs : List A) (d : A) → i < length xs → w * length xs ≤ n → row_out w (length xs) i (table row n xs) ≡ table row n (take i xs ++ drop (i + 1) xs)
+  table_out n i xs d lt le =
       let m : ℕ = length xs - (i + 1) in
       let F : List ℕ = flat_map row (take i xs) in
       let r : List ℕ = row (get_or xs i d) in

@@ -17,8 +17,8 @@ module _ (front ps : List ℕ) (count j : ℕ) (two : length front ≡ 2) (eight
   used_is : used ≡ take count ps ++ replicate (most_parts - length (take count ps)) 0
   used_is = fixed_is most_parts (take count ps) (omega (arith, long))
 
-  pub used-part : j < count → get_or used j 0 ≡ get_or ps j 0
-  used-part less =
+  pub used_part : j < count → get_or used j 0 ≡ get_or ps j 0
+  used_part less =
       ap (λ l. get_or l j 0) used_is ∙ (get_or_append_left (take count ps) (replicate (most_parts - length (take count ps)) 0) 0 j (omega (arith, long)) ∙ get_or-take count ps j 0 less)
 
   pub unused_part : count ≤ j → get_or used j 0 ≡ 0
@@ -36,8 +36,8 @@ module _ (front ps : List ℕ) (count j : ℕ) (two : length front ≡ 2) (eight
   pub part_is : (row : List ℕ) → row ≡ front ++ (take j used ++ drop j ps) → get_or row (2 + j) 0 ≡ get_or ps j 0
   part_is row is = ap (λ l. get_or l (2 + j) 0) (is ∙ split) ∙ get_or_at (front ++ take j used) (get_or ps j 0) (drop (j + 1) ps) 0 (2 + j) length_front
 
-  pub part-written : (row : List ℕ) (v : ℕ) → row ≡ front ++ (take j used ++ drop j ps) → v ≡ get_or used j 0 → set row (2 + j) v ≡ front ++ (take (j + 1) used ++ drop (j + 1) ps)
-  part-written row v is e =
+  pub part_written : (row : List ℕ) (v : ℕ) → row ≡ front ++ (take j used ++ drop j ps) → v ≡ get_or used j 0 → set row (2 + j) v ≡ front ++ (take (j + 1) used ++ drop (j + 1) ps)
+  part_written row v is e =
       ap (λ l. set l (2 + j) v) (is ∙ split)
       ∙ (set_at (front ++ take j used) (get_or ps j 0) (drop (j + 1) ps) v (2 + j) length_front
       ∙ (append_assoc front (take j used) (v ∷ drop (j + 1) ps)

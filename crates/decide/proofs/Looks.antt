@@ -10,7 +10,7 @@ use Rattle.run.specs.Records.{run_in, run_width, verdict_in, verdict_width, verd
 use Rattle.run.specs.Run.{Run, Verdict, heard, is_bad, is_good, run_on, runs_on, same_run}
 use Rattle.run.specs.declared.known.Known.{Known}
 use Rattle.run.specs.declared.known.Known.TheVariants.{Nothing, Good, Bad}
-use Rattle.run.proofs.Heard.{heard-bad, heard-good, heard-later, heard_none, verdict_at}
+use Rattle.run.proofs.Heard.{heard_bad, heard-good, heard_later, heard_none, verdict_at}
 use Rattle.decide.specs.Decide.{all_good, any_bad, decision, decision_by, shares_any}
 use Rattle.decide.specs.declared.decision.Decision.{Decision}
 use Rattle.decide.specs.declared.decision.Decision.TheVariants.{Wait, Land, Reject}
@@ -68,14 +68,14 @@ module _ (cs : List Change) (xs : List ℕ) (n k p : ℕ) (x : DeclaredChange.Ch
   sought : top ≡ run_on cs x.number (get_or ps p 0)
   sought = on ∙ ap (run_on cs x.number) (sym (get_or-take x.count x.parts p 0 lp))
 
-  pub looks-good : (d : Decision) → t ≡ true → get_or (verdict_at xs k) run_width 0 ≡ 1 → decision_by d (runs_on cs x.number (drop p ps)) vs ≡ decision_by d (runs_on cs x.number (drop (p + 1) ps)) vs
-  looks-good d e g = by_good cs x.number ps p vs d within (ap (λ r. heard r vs) (sym sought) ∙ (sym inv ∙ heard-good cs xs n k top stored long lk is (sym test ∙ e) g))
+  pub looks_good : (d : Decision) → t ≡ true → get_or (verdict_at xs k) run_width 0 ≡ 1 → decision_by d (runs_on cs x.number (drop p ps)) vs ≡ decision_by d (runs_on cs x.number (drop (p + 1) ps)) vs
+  looks_good d e g = by_good cs x.number ps p vs d within (ap (λ r. heard r vs) (sym sought) ∙ (sym inv ∙ heard-good cs xs n k top stored long lk is (sym test ∙ e) g))
 
-  pub looks-bad : (d : Decision) → t ≡ true → (get_or (verdict_at xs k) run_width 0 ≡ 1 → ⊥) → decision_by d (runs_on cs x.number (drop p ps)) vs ≡ Reject
-  looks-bad d e g = by_bad cs x.number ps p vs d within (ap (λ r. heard r vs) (sym sought) ∙ (sym inv ∙ heard-bad cs xs n k top stored long lk is (sym test ∙ e) g))
+  pub looks_bad : (d : Decision) → t ≡ true → (get_or (verdict_at xs k) run_width 0 ≡ 1 → ⊥) → decision_by d (runs_on cs x.number (drop p ps)) vs ≡ Reject
+  looks_bad d e g = by_bad cs x.number ps p vs d within (ap (λ r. heard r vs) (sym sought) ∙ (sym inv ∙ heard_bad cs xs n k top stored long lk is (sym test ∙ e) g))
 
   pub looks_on : t ≡ false → heard top (rest (verdict_in cs) verdict_width xs verdicts_at n (k + 1)) ≡ heard top vs
-  looks_on e = sym (heard-later cs xs n k top stored long lk is (sym test ∙ e)) ∙ inv
+  looks_on e = sym (heard_later cs xs n k top stored long lk is (sym test ∙ e)) ∙ inv
 
 -- no verdict was of the run on the change's p-th part
 pub looks_in_vain : (cs : List Change) (xs : List ℕ) (n k p : ℕ) (x : DeclaredChange.Change) (top : Run) (d : Decision) → n ≤ k → x.count ≤ length x.parts → p < x.count → top ≡ run_on cs x.number (get_or x.parts p 0) →
@@ -94,9 +94,9 @@ looked cs vs p x d le = at_drop_all (λ qs. decision_by d (runs_on cs x.number q
 
 -- the decision of a change that shares a part with an earlier one, and of one that does not
 module _ (vs : List Verdict) (held landed : List Change) (x : Change) where
-  pub waits-behind : shares_any x held ≡ true → decision vs held landed x ≡ Wait
+  pub waits_behind : shares_any x held ≡ true → decision vs held landed x ≡ Wait
   unfolding decision
-  waits-behind e = ap (λ b. cond b Wait (decision_by Land (runs_on landed x.number x.parts) vs)) e
+  waits_behind e = ap (λ b. cond b Wait (decision_by Land (runs_on landed x.number x.parts) vs)) e
 
   pub decided : (d : Decision) → shares_any x held ≡ false → decision_by Land (runs_on landed x.number x.parts) vs ≡ d → decision vs held landed x ≡ d
   unfolding decision

@@ -4,7 +4,7 @@ use Rattle.std.specs.List.{AllByRecursion}
 use Rattle.change.specs.Change.{Change, has, line, part_limit, without}
 use Rattle.change.specs.Records.{change_row, change_width, written, row_out, Tallies}
 use Rattle.change.proofs.Changes.{length-change_row, line-append}
-use Rattle.change.proofs.Tables.{table_push, table-out}
+use Rattle.change.proofs.Tables.{table_push, table_out}
 use Rattle.run.specs.Numbers.{changes_section}
 
 -- a change that says nothing, where one must be named
@@ -39,7 +39,7 @@ section_more most cs c n e lt = table_push change_row change_width length-change
 pub section_less : (most : ℕ) (cs : List Change) (n i : ℕ) → n ≡ length cs → i < n → n ≤ most → row_out change_width n i (changes_section most cs) ≡ changes_section most (without i cs)
 section_less most cs n i e lt few =
     ap (λ u. row_out change_width u i (changes_section most cs)) e
-    ∙ (table-out change_row change_width length-change_row (change_width * most) i cs none (omega arith) (omega arith) ∙ ap (changes_section most) (sym (without_is i cs (omega arith))))
+    ∙ (table_out change_row change_width length-change_row (change_width * most) i cs none (omega arith) (omega arith) ∙ ap (changes_section most) (sym (without_is i cs (omega arith))))
 
 -- counts of the landed changes, where one more is counted at each of its parts
 pub tallies_land : (ts us : List ℕ) (cs : List Change) (c : Change) → Tallies ts cs → ((p : ℕ) → p < part_limit → get_or us p 0 ≡ get_or ts p 0 + cond (has c.parts p) 1 0) → Tallies us (cs ++ c ∷ [])

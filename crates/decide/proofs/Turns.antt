@@ -11,12 +11,12 @@ use Rattle.run.specs.Numbers.{Sections, Settled, Small, decode, landed_in, rejec
 use Rattle.run.specs.Records.{verdicts_in}
 use Rattle.run.specs.Run.{Verdict, runs_on}
 use Rattle.run.specs.State.{Queue}
-use Rattle.run.proofs.Changed.{Fitting, changes_again, count-landed, count-rejected, count-waiting, decode_changed, fitting_settled, landed_changed, rejected_changed, runs-settled, settled_changed, verdicts_changed, waiting_changed}
+use Rattle.run.proofs.Changed.{Fitting, changes_again, count_landed, count_rejected, count_waiting, decode_changed, fitting_settled, landed_changed, rejected_changed, runs_settled, settled_changed, verdicts_changed, waiting_changed}
 use Rattle.decide.specs.Decide.{Passed, by_decision, decision, decision_by, pass, shares_any}
 use Rattle.decide.specs.Passing.{passed_in, passed_sections, passed_state}
 use Rattle.decide.specs.declared.decision.Decision.{Decision}
 use Rattle.decide.specs.declared.decision.Decision.TheVariants.{Wait, Land, Reject}
-use Rattle.decide.proofs.Looks.{decided, waits-behind}
+use Rattle.decide.proofs.Looks.{decided, waits_behind}
 use Rattle.decide.proofs.Moves.{none, without_is, length_without, all_without}
 
 -- the first rows of more of them
@@ -47,16 +47,16 @@ module _ (vs : List Verdict) (i : ℕ) (L W R : List Change) (x : Change) (lt : 
   back : drop i (without i W) ≡ drop (i + 1) W
   back = ap (drop i) (without_is i W lt) ∙ drop_at (take i W) (drop (i + 1) W) i (length-take-le i W (omega arith))
 
-  pub from-waits : decision vs (take i W) L x ≡ Wait → from vs i L W R ≡ from vs (i + 1) L W R
-  from-waits e =
+  pub from_waits : decision vs (take i W) L x ≡ Wait → from vs i L W R ≡ from vs (i + 1) L W R
+  from_waits e =
       turned ∙ (ap next e ∙ ap (λ l. pass vs l L R (drop (i + 1) W)) (sym (take_more W i none lt ∙ ap (λ y. take i W ++ y ∷ []) (sym is))))
 
-  pub from-lands : decision vs (take i W) L x ≡ Land → from vs i L W R ≡ from vs i (L ++ x ∷ []) (without i W) R
-  from-lands e =
+  pub from_lands : decision vs (take i W) L x ≡ Land → from vs i L W R ≡ from vs i (L ++ x ∷ []) (without i W) R
+  from_lands e =
       turned ∙ (ap next e ∙ (λ j. pass vs (sym front j) (L ++ x ∷ []) R (sym back j)))
 
-  pub from-rejects : decision vs (take i W) L x ≡ Reject → from vs i L W R ≡ from vs i L (without i W) (R ++ x ∷ [])
-  from-rejects e =
+  pub from_rejects : decision vs (take i W) L x ≡ Reject → from vs i L W R ≡ from vs i L (without i W) (R ++ x ∷ [])
+  from_rejects e =
       turned ∙ (ap next e ∙ (λ j. pass vs (sym front j) L (R ++ x ∷ []) (sym back j)))
 
 pub from_all : (vs : List Verdict) (i : ℕ) (L W R : List Change) → length W ≤ i → from vs i L W R ≡ record { landed = L; waiting = W; rejected = R }
@@ -86,17 +86,17 @@ start xs h = record { settled = h; verdicts = refl; count = refl; same = λ L W 
 
 -- where all were looked at, the numbers are those that the pass gives, and they say its state
 module _ (old new : List ℕ) (i : ℕ) (u : Underway old new i) (le : get_or new waiting_count 0 ≤ i) where
-  all-passed : record { landed = landed_in new; waiting = waiting_in new; rejected = rejected_in new } ≡ passed_in old
-  all-passed = sym (from_all (held_verdicts old) i (landed_in new) (waiting_in new) (rejected_in new) (omega (arith, count-waiting new))) ∙ u.goes_on
+  all_passed : record { landed = landed_in new; waiting = waiting_in new; rejected = rejected_in new } ≡ passed_in old
+  all_passed = sym (from_all (held_verdicts old) i (landed_in new) (waiting_in new) (rejected_in new) (omega (arith, count_waiting new))) ∙ u.goes_on
 
   pub done : new ≡ whole (passed_sections old)
-  done = u.settled.is ∙ (ap whole (u.same (landed_in new) (waiting_in new) (rejected_in new)) ∙ ap (λ (p : Passed). whole (with_changes old p.landed p.waiting p.rejected)) all-passed)
+  done = u.settled.is ∙ (ap whole (u.same (landed_in new) (waiting_in new) (rejected_in new)) ∙ ap (λ (p : Passed). whole (with_changes old p.landed p.waiting p.rejected)) all_passed)
 
-  pub done-state : decode new ≡ passed_state old
-  done-state = u.state ∙ ap (λ (p : Passed). with_lists p.landed p.waiting p.rejected (decode old)) all-passed
+  pub done_state : decode new ≡ passed_state old
+  done_state = u.state ∙ ap (λ (p : Passed). with_lists p.landed p.waiting p.rejected (decode old)) all_passed
 
-pub behind-stays : (old new : List ℕ) (i : ℕ) → Underway old new i → drop queue_length new ≡ drop queue_length old
-behind-stays old new i u = ap (λ (s : Sections). s.behind) (u.same [] [] [])
+pub behind_stays : (old new : List ℕ) (i : ℕ) → Underway old new i → drop queue_length new ≡ drop queue_length old
+behind_stays old new i u = ap (λ (s : Sections). s.behind) (u.same [] [] [])
 
 -- the change at hand
 module _ (old new : List ℕ) (i : ℕ) (x : Change) (u : Underway old new i) (lt : i < get_or new waiting_count 0) (at : x ≡ change_in (drop (waiting_at + change_width * i) new)) where
@@ -110,7 +110,7 @@ module _ (old new : List ℕ) (i : ℕ) (x : Change) (u : Underway old new i) (l
   R = rejected_in new
 
   there : i < length W
-  there = omega (arith, count-waiting new)
+  there = omega (arith, count_waiting new)
 
   is : x ≡ get_or W i none
   is = at ∙ sym (get_d_rows change_in change_width (get_or new waiting_count 0) i (drop waiting_at new) none lt ∙ ap change_in (drop-drop (change_width * i) waiting_at new))
@@ -121,7 +121,7 @@ module _ (old new : List ℕ) (i : ℕ) (x : Change) (u : Underway old new i) (l
 
   -- its decision, as it is read from the numbers
   pub behind : shares_any x (changes_in i (drop waiting_at new)) ≡ true → decision (held_verdicts new) (take i W) L x ≡ Wait
-  behind e = waits-behind (held_verdicts new) (take i W) L x (ap (shares_any x) (sym held) ∙ e)
+  behind e = waits_behind (held_verdicts new) (take i W) L x (ap (shares_any x) (sym held) ∙ e)
 
   pub by_runs : (n : ℕ) (d : Decision) → n ≡ get_or old verdicts_count 0 → shares_any x (changes_in i (drop waiting_at new)) ≡ false → decision_by Land (runs_on L x.number x.parts) (verdicts_in L n (drop verdicts_at new)) ≡ d →
       decision (held_verdicts new) (take i W) L x ≡ d
@@ -138,7 +138,7 @@ module _ (old new : List ℕ) (i : ℕ) (x : Change) (u : Underway old new i) (l
         count = u.count;
         same = u.same;
         state = u.state;
-        goes_on = sym (from-waits (held_verdicts old) i L W R x there is d) ∙ u.goes_on;
+        goes_on = sym (from_waits (held_verdicts old) i L W R x there is d) ∙ u.goes_on;
       }
 
   small : Small x
@@ -155,13 +155,13 @@ module _ (old new : List ℕ) (i : ℕ) (x : Change) (u : Underway old new i) (l
       let waiting = waiting_changed new L₁ (without i W) R₁ h.long fit zs z in
       let rejected = rejected_changed new L₁ (without i W) R₁ h.long fit zs z in
       let again = changes_again new L₁ (without i W) R₁ h.long fit zs z in
-      let left : get_or zs waiting_count 0 + 1 ≡ get_or new waiting_count 0 = omega (arith, count-waiting zs, ap length waiting, length_without i W there, count-waiting new) in (
+      let left : get_or zs waiting_count 0 + 1 ≡ get_or new waiting_count 0 = omega (arith, count_waiting zs, ap length waiting, length_without i W there, count_waiting new) in (
         record {
-          settled = settled_changed new zs ds (without i W) R₁ (runs-settled new h) fit₁ z₁;
-          verdicts = verdicts_changed new zs ds (without i W) R₁ (runs-settled new h) fit₁ z₁ ∙ u.verdicts;
+          settled = settled_changed new zs ds (without i W) R₁ (runs_settled new h) fit₁ z₁;
+          verdicts = verdicts_changed new zs ds (without i W) R₁ (runs_settled new h) fit₁ z₁ ∙ u.verdicts;
           count = ap (λ l. get_or l verdicts_count 0) z ∙ u.count;
           same = λ L₂ W₂ R₂. again L₂ W₂ R₂ ∙ u.same L₂ W₂ R₂;
-          state = decode_changed new zs ds (without i W) R₁ (runs-settled new h) fit₁ z₁ ∙ (λ j. with_lists (sym (landed ∙ e) j) (sym waiting j) (sym rejected j) (u.state j));
+          state = decode_changed new zs ds (without i W) R₁ (runs_settled new h) fit₁ z₁ ∙ (λ j. with_lists (sym (landed ∙ e) j) (sym waiting j) (sym rejected j) (u.state j));
           goes_on = (λ j. from (held_verdicts old) i (landed j) (waiting j) (rejected j)) ∙ (sym step ∙ u.goes_on);
         },
         left,
@@ -183,23 +183,23 @@ module _ (old new : List ℕ) (i : ℕ) (x : Change) (u : Underway old new i) (l
           small_rejected = f.small_rejected;
         }
 
-    landed-out : landed_in ys ≡ L
-    landed-out = landed_changed new L (without i W) R u.settled.long fit_out ys out
+    landed_out : landed_in ys ≡ L
+    landed_out = landed_changed new L (without i W) R u.settled.long fit_out ys out
 
-    waiting-out : waiting_in ys ≡ without i W
-    waiting-out = waiting_changed new L (without i W) R u.settled.long fit_out ys out
+    waiting_out : waiting_in ys ≡ without i W
+    waiting_out = waiting_changed new L (without i W) R u.settled.long fit_out ys out
 
-    rejected-out : rejected_in ys ≡ R
-    rejected-out = rejected_changed new L (without i W) R u.settled.long fit_out ys out
+    rejected_out : rejected_in ys ≡ R
+    rejected_out = rejected_changed new L (without i W) R u.settled.long fit_out ys out
 
     -- there is a place for it among those that landed, and among those that were rejected
     pub taken_out : Settled ys × (get_or ys landed_count 0 < most_landed) × (get_or ys rejected_count 0 < most_rejected)
     taken_out =
         let f = fitting_settled new u.settled in
         let e : L ≡ L ++ [] = sym (append-nil L) in (
-          settled_changed new ys [] (without i W) R (runs-settled new u.settled) (subst (λ (l : List Change). Fitting l (without i W) R) e fit_out) (out ∙ ap (λ (l : List Change). whole (with_changes new l (without i W) R)) e),
-          omega (arith, f.landed, ap length landed-out, count-landed ys, there),
-          omega (arith, f.rejected, ap length rejected-out, count-rejected ys, there),
+          settled_changed new ys [] (without i W) R (runs_settled new u.settled) (subst (λ (l : List Change). Fitting l (without i W) R) e fit_out) (out ∙ ap (λ (l : List Change). whole (with_changes new l (without i W) R)) e),
+          omega (arith, f.landed, ap length landed_out, count_landed ys, there),
+          omega (arith, f.rejected, ap length rejected_out, count_rejected ys, there),
         )
 
     -- and lands
@@ -216,8 +216,8 @@ module _ (old new : List ℕ) (i : ℕ) (x : Change) (u : Underway old new i) (l
         } in
         let d = ap (λ vs. decision vs (take i W) L x) (sym u.verdicts) ∙ e in
         moves zs (L ++ x ∷ []) (x ∷ []) R refl fit
-        (z ∙ (ap whole (changes_again new L (without i W) R u.settled.long fit_out ys out (landed_in ys ++ x ∷ []) (waiting_in ys) (rejected_in ys)) ∙ (λ j. whole (with_changes new (landed-out j ++ x ∷ []) (waiting-out j) (rejected-out j)))))
-        (from-lands (held_verdicts old) i L W R x there is d)
+        (z ∙ (ap whole (changes_again new L (without i W) R u.settled.long fit_out ys out (landed_in ys ++ x ∷ []) (waiting_in ys) (rejected_in ys)) ∙ (λ j. whole (with_changes new (landed_out j ++ x ∷ []) (waiting_out j) (rejected_out j)))))
+        (from_lands (held_verdicts old) i L W R x there is d)
 
     -- or is rejected
     pub rejects : (zs : List ℕ) → zs ≡ whole (with_changes ys (landed_in ys) (waiting_in ys) (rejected_in ys ++ x ∷ [])) → decision (held_verdicts new) (take i W) L x ≡ Reject →
@@ -233,8 +233,8 @@ module _ (old new : List ℕ) (i : ℕ) (x : Change) (u : Underway old new i) (l
         } in
         let d = ap (λ vs. decision vs (take i W) L x) (sym u.verdicts) ∙ e in
         moves zs L [] (R ++ x ∷ []) (sym (append-nil L)) fit
-        (z ∙ (ap whole (changes_again new L (without i W) R u.settled.long fit_out ys out (landed_in ys) (waiting_in ys) (rejected_in ys ++ x ∷ [])) ∙ (λ j. whole (with_changes new (landed-out j) (waiting-out j) (rejected-out j ++ x ∷ [])))))
-        (from-rejects (held_verdicts old) i L W R x there is d)
+        (z ∙ (ap whole (changes_again new L (without i W) R u.settled.long fit_out ys out (landed_in ys) (waiting_in ys) (rejected_in ys ++ x ∷ [])) ∙ (λ j. whole (with_changes new (landed_out j) (waiting_out j) (rejected_out j ++ x ∷ [])))))
+        (from_rejects (held_verdicts old) i L W R x there is d)
 
 -- so many turns were taken, and so many changes decided in them: the others are held; the tally counts what has landed
 pub record Turned (old new tally : List ℕ) (turn decided : ℕ) : Type 0 where

@@ -55,10 +55,10 @@ has-among cs r h [] all = refl
 has-among cs r h (x ∷ xs) all = λ i. row_same cs r x h all.0 i || has-among cs r h xs all.1 i
 
 -- a run of which no verdict has the row is unknown
-has-known : (cs : List Change) (r : Run) → Ahead cs r → (vs : List Verdict) → AllByRecursion (AheadVerdict cs) vs → not (has_row (run_row cs r) (map (λ (v : Verdict). run_row cs v.run) vs)) ≡ is_unknown (heard r vs)
-has-known cs r h [] all = refl
-has-known cs r h (v ∷ vs) all =
-    ap (λ b. not (b || has_row (run_row cs r) (map (λ (v : Verdict). run_row cs v.run) vs))) (row_same cs r v.run h all.0) ∙ go (has-known cs r h vs all.1) (same_run r v.run) v.good
+has_known : (cs : List Change) (r : Run) → Ahead cs r → (vs : List Verdict) → AllByRecursion (AheadVerdict cs) vs → not (has_row (run_row cs r) (map (λ (v : Verdict). run_row cs v.run) vs)) ≡ is_unknown (heard r vs)
+has_known cs r h [] all = refl
+has_known cs r h (v ∷ vs) all =
+    ap (λ b. not (b || has_row (run_row cs r) (map (λ (v : Verdict). run_row cs v.run) vs))) (row_same cs r v.run h all.0) ∙ go (has_known cs r h vs all.1) (same_run r v.run) v.good
   where
     go : not (has_row (run_row cs r) (map (λ (v : Verdict). run_row cs v.run) vs)) ≡ is_unknown (heard r vs) → (b g : Bool) →
         not (b || has_row (run_row cs r) (map (λ (v : Verdict). run_row cs v.run) vs)) ≡ is_unknown (cond b (cond g Good Bad) (heard r vs))
@@ -75,7 +75,7 @@ module _ (cs : List Change) (b v n m : ℕ) (vs xs ys row : List ℕ) (ks : List
   same_test =
       let a : not (has_row row (run_rows verdict_width v vs)) ≡ is_unknown (heard r ks) =
       ap (λ u. not (has_row u (run_rows verdict_width v vs))) is
-      ∙ (ap (λ u. not (has_row (run_row cs r) u)) (holds_rows (λ (v : Verdict). run_row cs v.run) (verdict_row cs) (AheadVerdict cs) verdict_width most_verdicts v (length-verdict_row cs) (verdict_front cs) vs ks hv) ∙ has-known cs r ahead ks hv.all) in
+      ∙ (ap (λ u. not (has_row (run_row cs r) u)) (holds_rows (λ (v : Verdict). run_row cs v.run) (verdict_row cs) (AheadVerdict cs) verdict_width most_verdicts v (length-verdict_row cs) (verdict_front cs) vs ks hv) ∙ has_known cs r ahead ks hv.all) in
       let c : has_row row (run_rows run_width n xs) ≡ among r rs =
       ap (λ u. has_row u (run_rows run_width n xs)) is
       ∙ (ap (has_row (run_row cs r)) (holds_rows (run_row cs) (run_row cs) (Ahead cs) run_width most_running n (length-run_row cs) (run_front cs) xs rs h) ∙ has-among cs r ahead rs h.all) in

@@ -63,9 +63,9 @@ module _ {A : Type 0} (f : List ℕ → A) (row : A → List ℕ) (w n : ℕ) (l
   keep_no e = ap (kept t) more ∙ kept_no t (rows f w k (drop base xs)) x e
 
 -- what is kept and written to a section of 0 is held there
-pub kept-held : {A : Type 0} (row : A → List ℕ) (P : A → Type 0) (w most n : ℕ) (t : A → Bool) → ((x : A) → t x ≡ true → P x) → (xs : List ℕ) (ys : List A) → length ys ≤ most →
+pub kept_held : {A : Type 0} (row : A → List ℕ) (P : A → Type 0) (w most n : ℕ) (t : A → Bool) → ((x : A) → t x ≡ true → P x) → (xs : List ℕ) (ys : List A) → length ys ≤ most →
     xs ≡ table row (w * most) (kept t ys) → n ≡ length (kept t ys) → Holds row P w most n xs (kept t ys)
-kept-held row P w most n t h xs ys few e f = record { is = e; all = all-kept t P h ys; count = f; few = omega (arith, f, length-kept t ys) }
+kept_held row P w most n t h xs ys few e f = record { is = e; all = all-kept t P h ys; count = f; few = omega (arith, f, length-kept t ys) }
 
 pub table_none : {A : Type 0} (row : A → List ℕ) (n : ℕ) → replicate n 0 ≡ table row n []
 unfolding table

@@ -7,8 +7,8 @@ use Rattle.run.specs.Records.{run_width, verdict_width}
 use Rattle.run.specs.Layout.{most_verdicts, most_running, benches_at, depth_at, landed_count, waiting_count, rejected_count, verdicts_count, running_count, requested_at, landed_at, verdicts_at, running_at, queue_length}
 use Rattle.run.specs.State.{Config, Queue}
 use Rattle.run.specs.Numbers.{Sections, sections, whole, config_in, landed_in, waiting_in, rejected_in, with_changes, encode, decode, Settled, Fits}
-use Rattle.run.proofs.Sections.{Sized, sized_sections, whole-sections, sections-whole, counters_as, verdicts_as, put-verdicts, put-running, get_counter}
-use Rattle.run.proofs.Changed.{count-landed, count-waiting, count-rejected, fitting_settled, sized_changes}
+use Rattle.run.proofs.Sections.{Sized, sized_sections, whole-sections, sections-whole, counters_as, verdicts_as, put_verdicts, put_running, get_counter}
+use Rattle.run.proofs.Changed.{count_landed, count_waiting, count_rejected, fitting_settled, sized_changes}
 use Rattle.plan.specs.Plan.{still_running, still_known, request, planned}
 use Rattle.plan.specs.Numbers.{useful_now, verdicts_now, running_now, with_running}
 use Rattle.plan.specs.Rows.{HoldsRuns, HoldsVerdicts}
@@ -28,8 +28,8 @@ stored_is xs vs rs v r n le lv =
     let sized' : Sized (verdicts_as vs s) = record { counters = refl; landed = z.landed; waiting = z.waiting; rejected = z.rejected; verdicts = lv; running = z.running } in
     let a : set (set (set xs verdicts_count v) running_count r) requested_at n ≡ whole s =
     ap (λ l. set (set (set l verdicts_count v) running_count r) requested_at n) (sym (whole-sections xs) ∙ ap (λ l. whole (counters_as l (sections xs))) (counters_are xs le)) in
-    let b = ap (λ l. put_mid verdicts_at (verdict_width * most_verdicts) l vs) a ∙ put-verdicts s vs sized in
-    ap (λ l. put_mid running_at (run_width * most_running) l rs) b ∙ put-running (verdicts_as vs s) rs sized'
+    let b = ap (λ l. put_mid verdicts_at (verdict_width * most_verdicts) l vs) a ∙ put_verdicts s vs sized in
+    ap (λ l. put_mid running_at (run_width * most_running) l rs) b ∙ put_running (verdicts_as vs s) rs sized'
 
 module _ (xs : List ℕ) (h : Settled xs) where
   -- the sections of changes are written as they read
@@ -53,7 +53,7 @@ module _ (xs : List ℕ) (h : Settled xs) where
     planned_is k e =
         let s = changes_are in
         λ i. whole (record {
-          counters = get_or xs benches_at 0 ∷ get_or xs depth_at 0 ∷ sym (count-landed xs) i ∷ sym (count-waiting xs) i ∷ sym (count-rejected xs) i ∷ hv.count i ∷ hr.count i ∷ (get_or xs requested_at 0 + (hr.count i - e i)) ∷ [];
+          counters = get_or xs benches_at 0 ∷ get_or xs depth_at 0 ∷ sym (count_landed xs) i ∷ sym (count_waiting xs) i ∷ sym (count_rejected xs) i ∷ hv.count i ∷ hr.count i ∷ (get_or xs requested_at 0 + (hr.count i - e i)) ∷ [];
           landed = (s i).landed;
           waiting = (s i).waiting;
           rejected = (s i).rejected;

@@ -23,9 +23,9 @@ pub day_keeps : (t : Config) (P : Queue → Type 0) → ((q : Queue) (e : Event)
 day_keeps t P k es q h = log-keeps t (λ q g. P q) (λ q g e a i. k q e a i) es q blank h
 
 -- an event that is taken is stepped
-pub after-taken : (t : Config) (q : Queue) (e : Event) → accepts t q e ≡ true → after t q e ≡ step t q e
+pub after_taken : (t : Config) (q : Queue) (e : Event) → accepts t q e ≡ true → after t q e ≡ step t q e
 unfolding after
-after-taken t q e a = ap (λ (b : Bool). cond b (step t q e) q) a
+after_taken t q e a = ap (λ (b : Bool). cond b (step t q e) q) a
 
 -- a day is replayed in two parts as in one
 replayed-append : (t : Config) (q : Queue) (es fs : List Event) → replayed t q (es ++ fs) ≡ replayed t (replayed t q es) fs

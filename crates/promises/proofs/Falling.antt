@@ -12,7 +12,7 @@ use Rattle.promises.specs.Day.{held, measure, NotSubmit, AllTaken}
 use Rattle.promises.specs.Promises.{Progress}
 use Rattle.promises.proofs.Basics.{kept-all, length-place}
 use Rattle.promises.proofs.Pass.{pass_all}
-use Rattle.promises.proofs.Days.{after-taken}
+use Rattle.promises.proofs.Days.{after_taken}
 use Rattle.promises.proofs.Runs.{among-left, all_from, pigeons}
 use Rattle.promises.proofs.Useful.{useful-few}
 use Rattle.promises.proofs.Held.{known, moved, Orderly, orderly-step, orderly}
@@ -110,7 +110,7 @@ falls_all : (t : Config) (fs : List Event) (q : Queue) → Orderly t q → AllTa
 unfolding replayed
 falls_all t [] q o k = omega arith
 falls_all t (e ∷ fs) q o k =
-    let n = after-taken t q e k.1 in
+    let n = after_taken t q e k.1 in
     omega (
       arith,
       falls_all t fs (after t q e) (subst (Orderly t) (sym n) (orderly-step t q e k.1 o)) k.2,
@@ -129,7 +129,7 @@ nobody_waits t q l = go q.waiting refl
 pub progress : Progress
 unfolding accepts
 progress t es = (
-  λ e x a. omega (arith, ap (measure t) (after-taken t q e a), falls t q e x a (orderly t es)),
+  λ e x a. omega (arith, ap (measure t) (after_taken t q e a), falls t q e x a (orderly t es)),
   λ fs k. (omega (arith, falls_all t fs q (orderly t es) k), λ l. nobody_waits t (replayed t q fs) (omega (arith, falls_all t fs q (orderly t es) k, l))),
   λ b d w g. lt-ltb 0 (length q.running) (never_idle t es b d w),
 )

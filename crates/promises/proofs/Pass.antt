@@ -26,9 +26,9 @@ abbrev pub says : Bench → Run → Bool
 says f r = f r.part r.changes
 
 -- what is known of a run is what the bench says of it
-heard-bad : (f : Bench) (r : Run) (ks : List Verdict) → Truthful f ks → is_bad (heard r ks) ≡ true → says f r ≡ false
-heard-bad f r [] t e = absurd (true≢false (sym e))
-heard-bad f r (v ∷ ks) t e = go (heard-bad f r ks t.1) (same_run r v.run) refl v.good refl e
+heard_bad : (f : Bench) (r : Run) (ks : List Verdict) → Truthful f ks → is_bad (heard r ks) ≡ true → says f r ≡ false
+heard_bad f r [] t e = absurd (true≢false (sym e))
+heard_bad f r (v ∷ ks) t e = go (heard_bad f r ks t.1) (same_run r v.run) refl v.good refl e
   where
     go : (is_bad (heard r ks) ≡ true → says f r ≡ false) → (b : Bool) → same_run r v.run ≡ b → (g : Bool) → v.good ≡ g →
         is_bad (cond b (cond g Good Bad) (heard r ks)) ≡ true → says f r ≡ false
@@ -58,7 +58,7 @@ bad_fails f ks t xs c (p ∷ ps) e = go (bad_fails f ks t xs c ps) (is_bad (hear
 
     go : (any_bad (runs_on xs c.number ps) ks ≡ true → passes_on f xs c ps ≡ false) → (b : Bool) → is_bad (heard r ks) ≡ b →
         (b || any_bad (runs_on xs c.number ps) ks) ≡ true → (says f r && passes_on f xs c ps) ≡ false
-    go ih true k h = ap (λ (b : Bool). b && passes_on f xs c ps) (heard-bad f r ks t k)
+    go ih true k h = ap (λ (b : Bool). b && passes_on f xs c ps) (heard_bad f r ks t k)
     go ih false k h = ap (λ (b : Bool). says f r && b) (ih h) ∙ and-false (says f r)
 
 -- one with all runs good does

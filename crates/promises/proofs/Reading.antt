@@ -20,7 +20,7 @@ use Rattle.promises.specs.Day.{logged}
 use Rattle.promises.specs.Promises.{AsSerial, AllTested}
 use Rattle.promises.specs.Lent.{is_done, lent_day, taken_events, AllAccepted, LentDays, parts_counted, well_formed, LentTaken, LentSerialEquivalence, LentEveryStateTested}
 use Rattle.promises.proofs.Basics.{both_left, both_right}
-use Rattle.promises.proofs.Days.{after-taken, Reached, reached-empty, reached-after}
+use Rattle.promises.proofs.Days.{after_taken, Reached, reached-empty, reached-after}
 use Rattle.promises.proofs.Main.{serial_equivalence}
 use Rattle.promises.proofs.Tested.{every_state_tested}
 use Rattle.promises.proofs.Fit.{room_day, few_verdicts, fits_day}
@@ -28,11 +28,11 @@ use Rattle.promises.proofs.Checked.{passed, Tests, turned, tests_both, tests_unl
 use Rattle.queue.specs.declared.reply.Refusal.TheVariants as refused
 
 -- ONE EVENT. What its kind asks of it is what records ask, that its parts are counted, and that requests can be.
-abbrev TakenKind : Config → Queue → List ℕ → ℕ → Bool
-TakenKind t q es k = parts_counted k es && (accepts t q (event_by k (drop 1 es)) && ltb q.requested number_limit)
+abbrev taken_kind : Config → Queue → List ℕ → ℕ → Bool
+taken_kind t q es k = parts_counted k es && (accepts t q (event_by k (drop 1 es)) && ltb q.requested number_limit)
 
 tests_kind : (t : Config) (q : Queue) (behind xs es : List ℕ) → Says t q behind xs → length q.verdicts < most_verdicts → (k : ℕ) →
-    Tests (kind_check k xs es) (TakenKind t q es k)
+    Tests (kind_check k xs es) (taken_kind t q es k)
 unfolding decode accepts
 tests_kind t q behind xs es s v = go
   where
@@ -78,7 +78,7 @@ tests_kind t q behind xs es s v = go
     reordered false true c d e = refl
     reordered false false c d e = refl
 
-    go : (k : ℕ) → Tests (kind_check k xs es) (TakenKind t q es k)
+    go : (k : ℕ) → Tests (kind_check k xs es) (taken_kind t q es k)
     go zero = turned (tests_both number (tests_both parts (tests_both room requests))) (reordered (fresh q c.number) (leb (get_or es 2 0) most_parts) (proper c) (roomy q) (ltb q.requested number_limit))
     go (suc zero) = tests_both waits requests
     go (suc (suc k)) = tests_both runs (tests_both verdicts requests)
@@ -104,11 +104,11 @@ small_depth k e = leb-true k most_depth (both_right (leb 1 k) (leb k most_depth)
 lent_fits : (t : Config) (q : Queue) → Lent t q → Fits q
 lent_fits t q l = subst Fits (sym l.reached.is) (fits_day t l.reached.events (small_depth t.depth l.depth) (few-benches t.benches l.benches))
 
-abbrev TakenIf : Config → Queue → List ℕ → Bool
-TakenIf t q es = well_formed es && (accepts t q (event_in es) && ltb q.requested number_limit)
+abbrev taken_if : Config → Queue → List ℕ → Bool
+taken_if t q es = well_formed es && (accepts t q (event_in es) && ltb q.requested number_limit)
 
 -- its numbers refuse an event by nothing else
-tests_event : (t : Config) (q : Queue) (behind xs es : List ℕ) → Lent t q → Says t q behind xs → Tests (refusal report_kind xs es) (TakenIf t q es)
+tests_event : (t : Config) (q : Queue) (behind xs es : List ℕ) → Lent t q → Says t q behind xs → Tests (refusal report_kind xs es) (taken_if t q es)
 tests_event t q behind xs es l s =
     turned (tests_both front (tests_kind t q behind xs es s few (get_or es 0 0))) (sym (and_assoc form (parts_counted (get_or es 0 0) es) (accepts t q (event_in es) && ltb q.requested number_limit)))
   where
@@ -182,7 +182,7 @@ lent-from t behind (es ∷ ess) q l = go (stepped_is t q behind es l) (lent-from
     Rest p = AllAccepted t p (taken_events (encode t p behind) ess) × (lent_day (encode t p behind) ess ≡ encode t (replayed t p (taken_events (encode t p behind) ess)) behind)
 
     go : Stepped t q behind es now → Rest q → Rest (after t q e) → Goal (is_done now.0) now.1
-    go (inl k) same further = subst₂ Goal (sym k.0) (sym (k.2 ∙ ap (λ (p : Queue). encode t p behind) (sym (after-taken t q e k.1)))) ((k.1, further.0), further.1)
+    go (inl k) same further = subst₂ Goal (sym k.0) (sym (k.2 ∙ ap (λ (p : Queue). encode t p behind) (sym (after_taken t q e k.1)))) ((k.1, further.0), further.1)
     go (inr k) same further = subst₂ Goal (sym k.0) (sym k.1) same
 
 -- opening writes an empty queue of a config that can be lent
@@ -251,7 +251,7 @@ pub lent_taken : LentTaken
 unfolding stepped
 lent_taken slice b k ess e es =
     done_is (refusal report_kind xs es) xs (length further.running) (encode (config_in xs) further (drop queue_length xs))
-    ∙ (tests_event t q behind xs es d.lent says).is ∙ ap (λ (p : Queue). TakenIf t p es) (sym says.decode_is)
+    ∙ (tests_event t q behind xs es d.lent says).is ∙ ap (λ (p : Queue). taken_if t p es) (sym says.decode_is)
   where
     t : Config
     t = config b k

@@ -65,7 +65,7 @@ LentTaken =
     let xs = lent_day (opened slice b k).1 ess in
     is_done (stepped xs es).0 ≡ (well_formed es && (accepts (config b k) (decode xs) (event_in es) && nat_lt (decode xs).requested number_limit))
 
--- Serial-equivalence, of what the numbers say.
+-- SerialEquivalence, of what the numbers say.
 abbrev pub LentSerialEquivalence : Type 0
 LentSerialEquivalence =
     (bench : Bench) (slice : List ℕ) (b k : ℕ) (ess : List (List ℕ)) → is_done (opened slice b k).0 ≡ true →
@@ -73,7 +73,7 @@ LentSerialEquivalence =
     let g = logged (config b k) (taken_events xs ess) in
     Truthful bench g.reports → AsSerial bench g (decode (lent_day xs ess))
 
--- Every-state-tested, of what the numbers say.
+-- EveryStateTested, of what the numbers say.
 abbrev pub LentEveryStateTested : Type 0
 LentEveryStateTested =
     (slice : List ℕ) (b k : ℕ) (ess : List (List ℕ)) → is_done (opened slice b k).0 ≡ true →

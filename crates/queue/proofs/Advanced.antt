@@ -12,9 +12,9 @@ use Rattle.queue.specs.Entry.{stepped_to}
 use Rattle.queue.specs.Stages.{Says}
 
 -- the numbers that the pass leaves say the state in which what could be decided is decided
-pub says-passed : (xs ys : List ℕ) → Settled ys → decode ys ≡ passed_state xs → ys ≡ whole (passed_sections xs) → drop queue_length ys ≡ drop queue_length xs → Says xs (decided (decode xs)) ys
+pub says_passed : (xs ys : List ℕ) → Settled ys → decode ys ≡ passed_state xs → ys ≡ whole (passed_sections xs) → drop queue_length ys ≡ drop queue_length xs → Says xs (decided (decode xs)) ys
 unfolding decided decode
-says-passed xs ys settled state is behind = record { settled = settled; state = state; config = ap config_in is; behind = behind }
+says_passed xs ys settled state is behind = record { settled = settled; state = state; config = ap config_in is; behind = behind }
 
 -- an event that is recorded lands nothing, and requests nothing
 recorded-landed : (q : Queue) (e : Event) → (recorded q e).landed ≡ q.landed

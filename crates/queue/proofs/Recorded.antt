@@ -15,9 +15,9 @@ use Rattle.decide.proofs.Moves.{section_less, length_without, all_without}
 use Rattle.queue.specs.Queue.{with_waiting}
 use Rattle.queue.specs.Stages.{Roomy, Sound, Says}
 use Rattle.queue.specs.declared.counts.Counts.{Counts}
-use Rattle.run.proofs.Sections.{Sized, landed_as, waiting_as, put-landed, put-waiting, put-rejected, get_counter, whole-sections, sized_sections, sections-whole}
-use Rattle.run.proofs.Changed.{section_long, count-landed, count-waiting, count-rejected, small_changes, Fitting, runs-settled, settled_changed, decode_changed, waiting-written, config_changed, behind_changed}
-use Rattle.run.proofs.Round.{change-records, rows_section}
+use Rattle.run.proofs.Sections.{Sized, landed_as, waiting_as, put_landed, put_waiting, put_rejected, get_counter, whole-sections, sized_sections, sections-whole}
+use Rattle.run.proofs.Changed.{section_long, count_landed, count_waiting, count_rejected, small_changes, Fitting, runs_settled, settled_changed, decode_changed, waiting-written, config_changed, behind_changed}
+use Rattle.run.proofs.Round.{change_records, rows_section}
 
 -- a section that was written anew is what is written of what the queue says there
 pub section_anew : (at most n k : ℕ) (xs part ys : List ℕ) → at + change_width * most ≤ length xs → part ≡ take (change_width * most) (drop at xs) → n ≡ k → n ≤ most →
@@ -25,7 +25,7 @@ pub section_anew : (at most n k : ℕ) (xs part ys : List ℕ) → at + change_w
 section_anew at most n k xs part ys long is e few h =
     let enough : change_width * most ≤ length (drop at xs) = omega (arith, length-drop at xs) in
     let l : length part ≡ change_width * most = ap length is ∙ length-take-le (change_width * most) (drop at xs) enough in
-    let r : changes_in n part ≡ changes_in k (drop at xs) = ap (changes_in n) is ∙ (rows_section change-records n (change_width * most) (drop at xs) (omega arith) enough ∙ ap (λ u. changes_in u (drop at xs)) e) in
+    let r : changes_in n part ≡ changes_in k (drop at xs) = ap (changes_in n) is ∙ (rows_section change_records n (change_width * most) (drop at xs) (omega arith) enough ∙ ap (λ u. changes_in u (drop at xs)) e) in
     h ∙ (λ i. table change_row (l i) (r i))
 
 -- the counters, one by one
@@ -61,34 +61,34 @@ tidied xs ls ws rs n m k long ln lm lk fn fm fk hl hw hr =
     let x₂ : List ℕ = put_mid waiting_at (change_width * most_waiting) x₁ ws in
     let el : ls ≡ changes_section most_landed (landed_in xs) = section_anew landed_at most_landed n (get_or xs landed_count 0) xs (sections xs).landed ls (omega arith) refl ln fn hl in
     let s₁ : Sections = landed_as ls s₀ in
-    let z₁ : Sized s₁ = sized_landed s₀ ls z₀ (ap length el ∙ section_long most_landed (landed_in xs) (omega (arith, count-landed xs))) in
-    let e₁ : x₁ ≡ whole s₁ = ap (λ l. put_mid landed_at (change_width * most_landed) l ls) (sym (whole-sections xs)) ∙ put-landed s₀ ls z₀ in
+    let z₁ : Sized s₁ = sized_landed s₀ ls z₀ (ap length el ∙ section_long most_landed (landed_in xs) (omega (arith, count_landed xs))) in
+    let e₁ : x₁ ≡ whole s₁ = ap (λ l. put_mid landed_at (change_width * most_landed) l ls) (sym (whole-sections xs)) ∙ put_landed s₀ ls z₀ in
     let ew : ws ≡ changes_section most_waiting (waiting_in xs) = section_anew waiting_at most_waiting m (get_or xs waiting_count 0) xs (sections x₁).waiting ws (omega arith) (waiting-part x₁ s₁ z₁ e₁) lm fm hw in
     let s₂ : Sections = waiting_as ws s₁ in
-    let z₂ : Sized s₂ = sized_waiting s₁ ws z₁ (ap length ew ∙ section_long most_waiting (waiting_in xs) (omega (arith, count-waiting xs))) in
-    let e₂ : x₂ ≡ whole s₂ = ap (λ l. put_mid waiting_at (change_width * most_waiting) l ws) e₁ ∙ put-waiting s₁ ws z₁ in
+    let z₂ : Sized s₂ = sized_waiting s₁ ws z₁ (ap length ew ∙ section_long most_waiting (waiting_in xs) (omega (arith, count_waiting xs))) in
+    let e₂ : x₂ ≡ whole s₂ = ap (λ l. put_mid waiting_at (change_width * most_waiting) l ws) e₁ ∙ put_waiting s₁ ws z₁ in
     let er : rs ≡ changes_section most_rejected (rejected_in xs) = section_anew rejected_at most_rejected k (get_or xs rejected_count 0) xs (sections x₂).rejected rs (omega arith) (rejected-part x₂ s₂ z₂ e₂) lk fk hr in
     let counters : s₀.counters ≡ (with_changes xs (landed_in xs) (waiting_in xs) (rejected_in xs)).counters =
-    counters_are xs long ∙ (λ i. get_or xs benches_at 0 ∷ get_or xs depth_at 0 ∷ sym (count-landed xs) i ∷ sym (count-waiting xs) i ∷ sym (count-rejected xs) i ∷ get_or xs verdicts_count 0 ∷ get_or xs running_count 0 ∷ get_or xs requested_at 0 ∷ []) in
+    counters_are xs long ∙ (λ i. get_or xs benches_at 0 ∷ get_or xs depth_at 0 ∷ sym (count_landed xs) i ∷ sym (count_waiting xs) i ∷ sym (count_rejected xs) i ∷ get_or xs verdicts_count 0 ∷ get_or xs running_count 0 ∷ get_or xs requested_at 0 ∷ []) in
     ap (λ l. put_mid rejected_at (change_width * most_rejected) l rs) e₂
-    ∙ (put-rejected s₂ rs z₂
+    ∙ (put_rejected s₂ rs z₂
     ∙ (λ i. whole (record { counters = counters i; landed = el i; waiting = ew i; rejected = er i; verdicts = s₀.verdicts; running = s₀.running; behind = s₀.behind })))
 
 -- a queue's changes fit their sections
 fitting_sound : (xs : List ℕ) (n : Counts) → Sound xs n → Fitting (landed_in xs) (waiting_in xs) (rejected_in xs)
 fitting_sound xs n h = record {
-  landed = omega (arith, h.can_land, h.counted.landed, h.counted.waiting, count-landed xs, count-waiting xs);
-  waiting = omega (arith, h.counted.waiting, n.few_waiting, count-waiting xs);
-  rejected = omega (arith, h.can_reject, h.counted.rejected, h.counted.waiting, count-rejected xs, count-waiting xs);
+  landed = omega (arith, h.can_land, h.counted.landed, h.counted.waiting, count_landed xs, count_waiting xs);
+  waiting = omega (arith, h.counted.waiting, n.few_waiting, count_waiting xs);
+  rejected = omega (arith, h.can_reject, h.counted.rejected, h.counted.waiting, count_rejected xs, count_waiting xs);
   small_landed = small_changes (get_or xs landed_count 0) (drop landed_at xs);
   small_waiting = small_changes (get_or xs waiting_count 0) (drop waiting_at xs);
   small_rejected = small_changes (get_or xs rejected_count 0) (drop rejected_at xs);
 }
 
 -- numbers in which others wait say the state in which they do
-pub says-changes : (xs ys : List ℕ) (W : List Change) → RunsFit xs → Fitting (landed_in xs) W (rejected_in xs) → ys ≡ whole (with_changes xs (landed_in xs) W (rejected_in xs)) → Says xs (with_waiting (decode xs) W) ys
+pub says_changes : (xs ys : List ℕ) (W : List Change) → RunsFit xs → Fitting (landed_in xs) W (rejected_in xs) → ys ≡ whole (with_changes xs (landed_in xs) W (rejected_in xs)) → Says xs (with_waiting (decode xs) W) ys
 unfolding decode
-says-changes xs ys W h fit is =
+says_changes xs ys W h fit is =
     let same : landed_in xs ++ [] ≡ landed_in xs = append-nil (landed_in xs) in
     let fit₁ : Fitting (landed_in xs ++ []) W (rejected_in xs) = subst (λ (cs : List Change). Fitting cs W (rejected_in xs)) (sym same) fit in
     let is₁ : ys ≡ whole (with_changes xs (landed_in xs ++ []) W (rejected_in xs)) = is ∙ ap (λ cs. whole (with_changes xs cs W (rejected_in xs))) (sym same) in
@@ -105,17 +105,17 @@ pub says_tidied : (xs ys : List ℕ) (n : Counts) → Sound xs n → ys ≡ whol
 unfolding decode
 says_tidied xs ys n h is =
     let fit = fitting_sound xs n h in
-    let said = says-changes xs ys (waiting_in xs) h.runs fit is in (
+    let said = says_changes xs ys (waiting_in xs) h.runs fit is in (
       record { settled = said.settled; state = said.state; config = said.config; behind = said.behind },
       record {
         counted = record {
-          landed = h.counted.landed ∙ sym (ap (λ l. get_or l landed_count 0) is ∙ count-landed xs);
-          waiting = h.counted.waiting ∙ sym (ap (λ l. get_or l waiting_count 0) is ∙ count-waiting xs);
-          rejected = h.counted.rejected ∙ sym (ap (λ l. get_or l rejected_count 0) is ∙ count-rejected xs);
+          landed = h.counted.landed ∙ sym (ap (λ l. get_or l landed_count 0) is ∙ count_landed xs);
+          waiting = h.counted.waiting ∙ sym (ap (λ l. get_or l waiting_count 0) is ∙ count_waiting xs);
+          rejected = h.counted.rejected ∙ sym (ap (λ l. get_or l rejected_count 0) is ∙ count_rejected xs);
           verdicts = h.counted.verdicts ∙ sym (ap (λ l. get_or l verdicts_count 0) is);
           running = h.counted.running ∙ sym (ap (λ l. get_or l running_count 0) is);
         };
-        runs = runs-settled ys said.settled;
+        runs = runs_settled ys said.settled;
         can_land = h.can_land;
         can_reject = h.can_reject;
       },
@@ -145,22 +145,22 @@ dropped-waiting n ws i m e count few =
     )
 
 -- one stage after another
-pub says-next : (xs ys zs : List ℕ) (p q r : Queue) → Says xs p ys → Says ys q zs → q ≡ r → Says xs r zs
-says-next xs ys zs p q r a b e = record { settled = b.settled; state = b.state ∙ e; config = b.config ∙ a.config; behind = b.behind ∙ a.behind }
+pub says_next : (xs ys zs : List ℕ) (p q r : Queue) → Says xs p ys → Says ys q zs → q ≡ r → Says xs r zs
+says_next xs ys zs p q r a b e = record { settled = b.settled; state = b.state ∙ e; config = b.config ∙ a.config; behind = b.behind ∙ a.behind }
 
 pub says_same : (xs ys zs : List ℕ) (q : Queue) → Says xs q ys → zs ≡ ys → Says xs q zs
 says_same xs ys zs q a e = subst (λ (l : List ℕ). Says xs q l) (sym e) a
 
 -- those that wait are written over, and then their count
-pub says-waiting : (ys zs : List ℕ) (W : List Change) (n : ℕ) → Settled ys → Fitting (landed_in ys) W (rejected_in ys) →
+pub says_waiting : (ys zs : List ℕ) (W : List Change) (n : ℕ) → Settled ys → Fitting (landed_in ys) W (rejected_in ys) →
     ((sections ys).waiting ≡ changes_section most_waiting (waiting_in ys) → zs ≡ changes_section most_waiting W) → n ≡ length W →
     Says ys (with_waiting (decode ys) W) (set (put_mid waiting_at (change_width * most_waiting) ys zs) waiting_count n)
-says-waiting ys zs W n h fit f count =
-    says-changes ys (set (put_mid waiting_at (change_width * most_waiting) ys zs) waiting_count n) W (runs-settled ys h) fit (waiting-written ys zs W n h count f)
+says_waiting ys zs W n h fit f count =
+    says_changes ys (set (put_mid waiting_at (change_width * most_waiting) ys zs) waiting_count n) W (runs_settled ys h) fit (waiting-written ys zs W n h count f)
 
 -- as many wait as the count says
 pub length-waiting : (ys : List ℕ) (n : Counts) → Sound ys n → n.waiting ≡ length (waiting_in ys)
-length-waiting ys n h = h.counted.waiting ∙ sym (count-waiting ys)
+length-waiting ys n h = h.counted.waiting ∙ sym (count_waiting ys)
 
 -- room for one more that waits
 pub fitting_more : (ys : List ℕ) (n : Counts) (c : Change) → Sound ys n → Roomy n → Small c → Fitting (landed_in ys) (waiting_in ys ++ c ∷ []) (rejected_in ys)
@@ -169,9 +169,9 @@ fitting_more ys n c h r small =
     let l = length_push (waiting_in ys) c in
     let w = length-waiting ys n h in
     record {
-      landed = omega (arith, l, w, r.can_land, h.counted.landed, count-landed ys);
+      landed = omega (arith, l, w, r.can_land, h.counted.landed, count_landed ys);
       waiting = omega (arith, l, w, r.can_wait);
-      rejected = omega (arith, l, w, r.can_reject, h.counted.rejected, count-rejected ys);
+      rejected = omega (arith, l, w, r.can_reject, h.counted.rejected, count_rejected ys);
       small_landed = fit.small_landed;
       small_waiting = All-push Small (waiting_in ys) c fit.small_waiting small;
       small_rejected = fit.small_rejected;
@@ -194,6 +194,6 @@ fitting_fewer ys n number place h e =
     }
 
 -- a change that waits at a place waits there still
-pub says-same-waiting : (xs ys : List ℕ) (number place : ℕ) → Says xs (decode xs) ys → place_of number (waiting_in xs) ≡ Some place → place_of number (waiting_in ys) ≡ Some place
+pub says_same-waiting : (xs ys : List ℕ) (number place : ℕ) → Says xs (decode xs) ys → place_of number (waiting_in xs) ≡ Some place → place_of number (waiting_in ys) ≡ Some place
 unfolding decode
-says-same-waiting xs ys number place said e = ap (λ (q : Queue). place_of number q.waiting) said.state ∙ e
+says_same-waiting xs ys number place said e = ap (λ (q : Queue). place_of number q.waiting) said.state ∙ e

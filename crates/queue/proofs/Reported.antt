@@ -13,10 +13,10 @@ use Rattle.run.specs.Limits.{most_following}
 use Rattle.run.specs.Records.{run_in, run_of, row_of, runs_in, run_width, verdict_in, verdict_row_of, verdicts_in, verdict_width}
 use Rattle.run.specs.Layout.{most_landed, most_waiting, most_rejected, most_verdicts, most_running, benches_at, depth_at, landed_count, waiting_count, rejected_count, verdicts_count, running_count, requested_at, landed_at, waiting_at, rejected_at, verdicts_at, running_at, queue_length}
 use Rattle.run.specs.Numbers.{Sections, sections, whole, landed_in, waiting_in, rejected_in, changes_section, with_changes, config_in, decode, Begins, Settled}
-use Rattle.run.proofs.Rows.{length-verdict_row_of, run_in-row, run_in-local, verdict_in-local}
-use Rattle.run.proofs.Sections.{Sized, verdicts_as, put-verdicts, put-running, sections-whole, long-whole}
-use Rattle.run.proofs.Round.{change-records, read_section}
-use Rattle.run.proofs.Changed.{count-landed, count-waiting, count-rejected, fitting_settled, sized_changes}
+use Rattle.run.proofs.Rows.{length-verdict_row_of, run_in_row, run_in-local, verdict_in-local}
+use Rattle.run.proofs.Sections.{Sized, verdicts_as, put_verdicts, put_running, sections-whole, long-whole}
+use Rattle.run.proofs.Round.{change_records, read_section}
+use Rattle.run.proofs.Changed.{count_landed, count_waiting, count_rejected, fitting_settled, sized_changes}
 use Rattle.decide.proofs.Moves.{without_is}
 use Rattle.queue.specs.Queue.{answered, no_run}
 use Rattle.queue.specs.Stages.{Says}
@@ -121,7 +121,7 @@ module _
     sized_verdicts = record { counters = z.counters; landed = z.landed; waiting = z.waiting; rejected = z.rejected; verdicts = length-vs; running = z.running }
 
     first : put_mid verdicts_at (verdict_width * most_verdicts) ys vs ≡ whole (verdicts_as vs s)
-    first = ap (λ l. put_mid verdicts_at (verdict_width * most_verdicts) l vs) h.is ∙ put-verdicts s vs z
+    first = ap (λ l. put_mid verdicts_at (verdict_width * most_verdicts) l vs) h.is ∙ put_verdicts s vs z
 
     -- running stood as it does where the verdict joined
     left : rs ≡ row_out run_width m i (sections ys).running
@@ -142,7 +142,7 @@ module _
     zs_is : zs ≡ whole after
     zs_is =
         ap (λ l. set (set (put_mid running_at (run_width * most_running) l rs) verdicts_count (n + 1)) running_count (m - 1)) first
-        ∙ ap (λ l. set (set l verdicts_count (n + 1)) running_count (m - 1)) (put-running (verdicts_as vs s) rs sized_verdicts)
+        ∙ ap (λ l. set (set l verdicts_count (n + 1)) running_count (m - 1)) (put_running (verdicts_as vs s) rs sized_verdicts)
 
     sections_are : sections zs ≡ after
     sections_are = ap sections zs_is ∙ sections-whole after sized_after
@@ -153,17 +153,17 @@ module _
     landed_is : landed_in zs ≡ L
     landed_is =
         ap (λ u. changes_in u (drop landed_at zs)) (ap (λ l. get_or l landed_count 0) zs_is)
-        ∙ read_section change-records (change_width * most_landed) (drop landed_at zs) L (ap (λ (t : Sections). t.landed) sections_are) (omega (arith, (fitting_settled ys h).landed)) (fitting_settled ys h).small_landed
+        ∙ read_section change_records (change_width * most_landed) (drop landed_at zs) L (ap (λ (t : Sections). t.landed) sections_are) (omega (arith, (fitting_settled ys h).landed)) (fitting_settled ys h).small_landed
 
     waiting_is : waiting_in zs ≡ W
     waiting_is =
         ap (λ u. changes_in u (drop waiting_at zs)) (ap (λ l. get_or l waiting_count 0) zs_is)
-        ∙ read_section change-records (change_width * most_waiting) (drop waiting_at zs) W (ap (λ (t : Sections). t.waiting) sections_are) (omega (arith, (fitting_settled ys h).waiting)) (fitting_settled ys h).small_waiting
+        ∙ read_section change_records (change_width * most_waiting) (drop waiting_at zs) W (ap (λ (t : Sections). t.waiting) sections_are) (omega (arith, (fitting_settled ys h).waiting)) (fitting_settled ys h).small_waiting
 
     rejected_is : rejected_in zs ≡ R
     rejected_is =
         ap (λ u. changes_in u (drop rejected_at zs)) (ap (λ l. get_or l rejected_count 0) zs_is)
-        ∙ read_section change-records (change_width * most_rejected) (drop rejected_at zs) R (ap (λ (t : Sections). t.rejected) sections_are) (omega (arith, (fitting_settled ys h).rejected)) (fitting_settled ys h).small_rejected
+        ∙ read_section change_records (change_width * most_rejected) (drop rejected_at zs) R (ap (λ (t : Sections). t.rejected) sections_are) (omega (arith, (fitting_settled ys h).rejected)) (fitting_settled ys h).small_rejected
 
     count-verdicts : get_or zs verdicts_count 0 ≡ n + 1
     count-verdicts = ap (λ l. get_or l verdicts_count 0) zs_is
@@ -194,7 +194,7 @@ module _
     run_is : run_of L r ≡ get_or (runs_in L m (drop running_at ys)) i no_run
     run_is =
         reads L
-        ∙ (run_in-row L (drop (running_at + run_width * i) ys) run_width (omega arith) (omega (arith, h.long, m-is, h.few_running, length-drop (running_at + run_width * i) ys))
+        ∙ (run_in_row L (drop (running_at + run_width * i) ys) run_width (omega arith) (omega (arith, h.long, m-is, h.few_running, length-drop (running_at + run_width * i) ys))
         ∙ sym (get_d_rows (run_in L) run_width m i (drop running_at ys) no_run there ∙ ap (run_in L) (drop-drop (run_width * i) running_at ys)))
 
     state_is : decode zs ≡ answered (decode ys) i good
@@ -235,9 +235,9 @@ module _
         record {
           long = long-zs;
           is = zs_is ∙ (λ j. whole (again j));
-          few_landed = omega (arith, fit.landed, ap length landed_is, ap length waiting_is, count-landed zs, count-waiting zs);
-          few_waiting = omega (arith, fit.waiting, ap length waiting_is, count-waiting zs);
-          few_rejected = omega (arith, fit.rejected, ap length rejected_is, ap length waiting_is, count-rejected zs, count-waiting zs);
+          few_landed = omega (arith, fit.landed, ap length landed_is, ap length waiting_is, count_landed zs, count_waiting zs);
+          few_waiting = omega (arith, fit.waiting, ap length waiting_is, count_waiting zs);
+          few_rejected = omega (arith, fit.rejected, ap length rejected_is, ap length waiting_is, count_rejected zs, count_waiting zs);
           few_verdicts = omega (arith, count-verdicts, few);
           few_running = omega (arith, count-running, m-is, h.few_running);
           verdicts_fit = λ k lt. subst (λ (cs : List Change). Begins cs (drop (verdicts_at + verdict_width * k) zs)) (sym landed_is) (fit_heads L verdict_width (n + 1) verdicts_at zs all_v k (omega (arith, count-verdicts)));

@@ -4,7 +4,7 @@ use Rattle.std.proofs.lemmas.List.{get_or-drop}
 use Rattle.std.proofs.lemmas.Bool.{leb-true}
 use Rattle.change.specs.Change.{Change, line, numbered, place_of}
 use Rattle.change.specs.Records.{changes_in}
-use Rattle.change.proofs.Changes.{place-numbered}
+use Rattle.change.proofs.Changes.{place_numbered}
 use Rattle.run.specs.Numbers.{Begins, landed_in, waiting_in, rejected_in}
 use Rattle.queue.specs.Refusals.{over, overlong, unless, number_check, waits_check}
 use Rattle.queue.specs.declared.reply.Refusal.TheVariants.{NumberUsed, NotWaiting}
@@ -68,4 +68,4 @@ counted P k m xs b e f = ap (λ u. P (changes_in u xs)) (sym e) ∙ sym f
 
 -- whether a change waits, by its place
 pub waits_by : (xs : List ℕ) (n : ℕ) (r : Option ℕ) → place_of n (waiting_in xs) ≡ r → waits_check xs n ≡ unless (is_some r) (NotWaiting n)
-waits_by xs n r e = ap (λ b. unless b (NotWaiting n)) (sym (place-numbered n (waiting_in xs)) ∙ ap is_some e)
+waits_by xs n r e = ap (λ b. unless b (NotWaiting n)) (sym (place_numbered n (waiting_in xs)) ∙ ap is_some e)

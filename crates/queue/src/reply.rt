@@ -2,7 +2,7 @@
 ghost use Rattle.std.specs.Prelude.{◌≡◌};
 ghost use Rattle.queue.specs.Refusals.{refusal_code};
 
-// Why an event is turned away. Its number and place are those of the definition `refusal-code`.
+// Why an event is turned away. Its number and place are those of the definition `refusal_code`.
 #[derive(Clone, Copy, PartialEq, Eq)]
 pub enum Refusal {
     // The lent slice is no queue: its length, or the index at which it breaks a rule.

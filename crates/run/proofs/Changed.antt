@@ -12,22 +12,22 @@ use Rattle.run.specs.Records.{run_in, verdict_in, verdicts_in, run_width, verdic
 use Rattle.run.specs.Limits.{most_following}
 use Rattle.run.specs.Layout.{most_landed, most_waiting, most_rejected, most_verdicts, most_running, benches_at, depth_at, landed_count, waiting_count, rejected_count, verdicts_count, running_count, requested_at, landed_at, waiting_at, rejected_at, verdicts_at, running_at, queue_length}
 use Rattle.run.specs.Numbers.{Sections, sections, whole, landed_in, waiting_in, rejected_in, with_changes, changes_section, Begins, Settled, Small, RunsFit, decode, config_in}
-use Rattle.run.proofs.Sections.{Sized, put-landed, put-waiting, put-rejected, sized_sections, sections-whole, long-whole, cut}
-use Rattle.run.proofs.Round.{change-records, read_section}
+use Rattle.run.proofs.Sections.{Sized, put_landed, put_waiting, put_rejected, sized_sections, sections-whole, long-whole, cut}
+use Rattle.run.proofs.Round.{change_records, read_section}
 
 -- a section of changes is as long as it should be
 pub section_long : (most : ℕ) (cs : List Change) → length cs ≤ most → length (changes_section most cs) ≡ change_width * most
 section_long most cs few = length-table change_row change_width length-change_row (change_width * most) cs (omega arith)
 
 -- as many changes are read as the counts say
-pub count-landed : (xs : List ℕ) → length (landed_in xs) ≡ get_or xs landed_count 0
-count-landed xs = length-rows change_in change_width (get_or xs landed_count 0) (drop landed_at xs)
+pub count_landed : (xs : List ℕ) → length (landed_in xs) ≡ get_or xs landed_count 0
+count_landed xs = length-rows change_in change_width (get_or xs landed_count 0) (drop landed_at xs)
 
-pub count-waiting : (xs : List ℕ) → length (waiting_in xs) ≡ get_or xs waiting_count 0
-count-waiting xs = length-rows change_in change_width (get_or xs waiting_count 0) (drop waiting_at xs)
+pub count_waiting : (xs : List ℕ) → length (waiting_in xs) ≡ get_or xs waiting_count 0
+count_waiting xs = length-rows change_in change_width (get_or xs waiting_count 0) (drop waiting_at xs)
 
-pub count-rejected : (xs : List ℕ) → length (rejected_in xs) ≡ get_or xs rejected_count 0
-count-rejected xs = length-rows change_in change_width (get_or xs rejected_count 0) (drop rejected_at xs)
+pub count_rejected : (xs : List ℕ) → length (rejected_in xs) ≡ get_or xs rejected_count 0
+count_rejected xs = length-rows change_in change_width (get_or xs rejected_count 0) (drop rejected_at xs)
 
 -- a change that is read has no more parts than its record has places for
 pub small_changes : (n : ℕ) (xs : List ℕ) → AllByRecursion Small (changes_in n xs)
@@ -45,9 +45,9 @@ pub record Fitting (L W R : List Change) : Type 0 where
 
 pub fitting_settled : (xs : List ℕ) → Settled xs → Fitting (landed_in xs) (waiting_in xs) (rejected_in xs)
 fitting_settled xs h = record {
-  landed = omega (arith, h.few_landed, count-landed xs, count-waiting xs);
-  waiting = omega (arith, h.few_waiting, count-waiting xs);
-  rejected = omega (arith, h.few_rejected, count-rejected xs, count-waiting xs);
+  landed = omega (arith, h.few_landed, count_landed xs, count_waiting xs);
+  waiting = omega (arith, h.few_waiting, count_waiting xs);
+  rejected = omega (arith, h.few_rejected, count_rejected xs, count_waiting xs);
   small_landed = small_changes (get_or xs landed_count 0) (drop landed_at xs);
   small_waiting = small_changes (get_or xs waiting_count 0) (drop waiting_at xs);
   small_rejected = small_changes (get_or xs rejected_count 0) (drop rejected_at xs);
@@ -75,19 +75,19 @@ module _ (xs : List ℕ) (L W R : List Change) (long : queue_length ≤ length x
     landed_changed =
         let count : get_or ys landed_count 0 ≡ length L = ap (λ l. get_or l landed_count 0) is in
         ap (λ n. changes_in n (drop landed_at ys)) count
-        ∙ read_section change-records (change_width * most_landed) (drop landed_at ys) L (ap (λ (s : Sections). s.landed) sections_are) (omega (arith, fit.landed)) fit.small_landed
+        ∙ read_section change_records (change_width * most_landed) (drop landed_at ys) L (ap (λ (s : Sections). s.landed) sections_are) (omega (arith, fit.landed)) fit.small_landed
 
     pub waiting_changed : waiting_in ys ≡ W
     waiting_changed =
         let count : get_or ys waiting_count 0 ≡ length W = ap (λ l. get_or l waiting_count 0) is in
         ap (λ n. changes_in n (drop waiting_at ys)) count
-        ∙ read_section change-records (change_width * most_waiting) (drop waiting_at ys) W (ap (λ (s : Sections). s.waiting) sections_are) (omega (arith, fit.waiting)) fit.small_waiting
+        ∙ read_section change_records (change_width * most_waiting) (drop waiting_at ys) W (ap (λ (s : Sections). s.waiting) sections_are) (omega (arith, fit.waiting)) fit.small_waiting
 
     pub rejected_changed : rejected_in ys ≡ R
     rejected_changed =
         let count : get_or ys rejected_count 0 ≡ length R = ap (λ l. get_or l rejected_count 0) is in
         ap (λ n. changes_in n (drop rejected_at ys)) count
-        ∙ read_section change-records (change_width * most_rejected) (drop rejected_at ys) R (ap (λ (s : Sections). s.rejected) sections_are) (omega (arith, fit.rejected)) fit.small_rejected
+        ∙ read_section change_records (change_width * most_rejected) (drop rejected_at ys) R (ap (λ (s : Sections). s.rejected) sections_are) (omega (arith, fit.rejected)) fit.small_rejected
 
     -- and other changes written over it leave nothing of it
     pub changes_again : (L₁ W₁ R₁ : List Change) → with_changes ys L₁ W₁ R₁ ≡ with_changes xs L₁ W₁ R₁
@@ -103,13 +103,13 @@ module _ (xs : List ℕ) (L W R : List Change) (long : queue_length ≤ length x
         }
 
     -- what stands from the verdicts on stays
-    pub running-stays : drop running_at ys ≡ drop running_at xs
-    running-stays =
+    pub running_stays : drop running_at ys ≡ drop running_at xs
+    running_stays =
         sym (cut running_at (run_width * most_running) queue_length ys refl) ∙ ((λ i. (sections_are i).running ++ (sections_are i).behind) ∙ cut running_at (run_width * most_running) queue_length xs refl)
 
     pub verdicts_stay : drop verdicts_at ys ≡ drop verdicts_at xs
     verdicts_stay =
-        sym (cut verdicts_at (verdict_width * most_verdicts) running_at ys refl) ∙ ((λ i. (sections_are i).verdicts ++ running-stays i) ∙ cut verdicts_at (verdict_width * most_verdicts) running_at xs refl)
+        sym (cut verdicts_at (verdict_width * most_verdicts) running_at ys refl) ∙ ((λ i. (sections_are i).verdicts ++ running_stays i) ∙ cut verdicts_at (verdict_width * most_verdicts) running_at xs refl)
 
     pub long_changed : queue_length ≤ length ys
     long_changed = subst (λ (l : List ℕ). queue_length ≤ length l) (sym is) (long-whole (with_changes xs L W R) sized_changes)
@@ -135,8 +135,8 @@ verdicts_more cs ds n xs fit =
 runs_more : (cs ds : List Change) (n : ℕ) (xs : List ℕ) → Fit run_width cs n xs → runs_in (cs ++ ds) n xs ≡ runs_in cs n xs
 runs_more cs ds n xs fit = rows_same (run_in (cs ++ ds)) (run_in cs) run_width n xs (λ k lt. run_in_more cs ds (drop (run_width * k) xs) (fit k lt))
 
-pub runs-settled : (xs : List ℕ) → Settled xs → RunsFit xs
-runs-settled xs h = record { long = h.long; few_verdicts = h.few_verdicts; few_running = h.few_running; verdicts_fit = h.verdicts_fit; running_fit = h.running_fit }
+pub runs_settled : (xs : List ℕ) → Settled xs → RunsFit xs
+runs_settled xs h = record { long = h.long; few_verdicts = h.few_verdicts; few_running = h.few_running; verdicts_fit = h.verdicts_fit; running_fit = h.running_fit }
 
 -- numbers that a step works on, in which more has landed and others wait or are rejected, are such numbers again
 pub settled_changed : (xs ys : List ℕ) (ds W R : List Change) → RunsFit xs → Fitting (landed_in xs ++ ds) W R → ys ≡ whole (with_changes xs (landed_in xs ++ ds) W R) → Settled ys
@@ -156,9 +156,9 @@ settled_changed xs ys ds W R h fit is =
     record {
       long = long_changed xs L W R long fit ys is;
       is = is ∙ (ap whole (sym (changes_again xs L W R long fit ys is L W R)) ∙ (λ i. whole (with_changes ys (sym landed i) (sym waiting i) (sym rejected i))));
-      few_landed = omega (arith, fit.landed, ap length landed, ap length waiting, count-landed ys, count-waiting ys);
-      few_waiting = omega (arith, fit.waiting, ap length waiting, count-waiting ys);
-      few_rejected = omega (arith, fit.rejected, ap length rejected, ap length waiting, count-rejected ys, count-waiting ys);
+      few_landed = omega (arith, fit.landed, ap length landed, ap length waiting, count_landed ys, count_waiting ys);
+      few_waiting = omega (arith, fit.waiting, ap length waiting, count_waiting ys);
+      few_rejected = omega (arith, fit.rejected, ap length rejected, ap length waiting, count_rejected ys, count_waiting ys);
       few_verdicts = omega (arith, count-verdicts, h.few_verdicts);
       few_running = omega (arith, count-running, h.few_running);
       verdicts_fit = λ k lt. fits 0 (verdict_width * k) (h.verdicts_fit k (omega (arith, count-verdicts)));
@@ -186,7 +186,7 @@ decode_changed xs ys ds W R h fit is =
     let waiting = waiting_changed xs L W R h.long fit ys is in
     let rejected = rejected_changed xs L W R h.long fit ys is in
     let verdicts = verdicts_changed xs ys ds W R h fit is in
-    let stays = running-stays xs L W R h.long fit ys is in
+    let stays = running_stays xs L W R h.long fit ys is in
     let count : get_or ys running_count 0 ≡ get_or xs running_count 0 = ap (λ l. get_or l running_count 0) is in
     let running = (λ i. runs_in (landed i) (count i) (stays i))
     ∙ runs_more (landed_in xs) ds (get_or xs running_count 0) (drop running_at xs) (λ k lt. subst (Begins (landed_in xs)) (sym (drop-drop (run_width * k) running_at xs)) (h.running_fit k lt)) in
@@ -236,18 +236,18 @@ module _ (xs zs : List ℕ) (cs : List Change) (n : ℕ) (h : Settled xs) (count
   landed-written f =
       let w = f (ap (λ (t : Sections). t.landed) as_written) in
       ap (λ l. set (put_mid landed_at (change_width * most_landed) l zs) landed_count n) h.is
-      ∙ (ap (λ l. set l landed_count n) (put-landed s zs z) ∙ (λ i. whole (counted xs (count i) (w i) (length W) (changes_section most_waiting W) (length R) (changes_section most_rejected R))))
+      ∙ (ap (λ l. set l landed_count n) (put_landed s zs z) ∙ (λ i. whole (counted xs (count i) (w i) (length W) (changes_section most_waiting W) (length R) (changes_section most_rejected R))))
 
   pub waiting-written : ((sections xs).waiting ≡ changes_section most_waiting W → zs ≡ changes_section most_waiting cs) →
       set (put_mid waiting_at (change_width * most_waiting) xs zs) waiting_count n ≡ whole (with_changes xs L cs R)
   waiting-written f =
       let w = f (ap (λ (t : Sections). t.waiting) as_written) in
       ap (λ l. set (put_mid waiting_at (change_width * most_waiting) l zs) waiting_count n) h.is
-      ∙ (ap (λ l. set l waiting_count n) (put-waiting s zs z) ∙ (λ i. whole (counted xs (length L) (changes_section most_landed L) (count i) (w i) (length R) (changes_section most_rejected R))))
+      ∙ (ap (λ l. set l waiting_count n) (put_waiting s zs z) ∙ (λ i. whole (counted xs (length L) (changes_section most_landed L) (count i) (w i) (length R) (changes_section most_rejected R))))
 
   pub rejected-written : ((sections xs).rejected ≡ changes_section most_rejected R → zs ≡ changes_section most_rejected cs) →
       set (put_mid rejected_at (change_width * most_rejected) xs zs) rejected_count n ≡ whole (with_changes xs L W cs)
   rejected-written f =
       let w = f (ap (λ (t : Sections). t.rejected) as_written) in
       ap (λ l. set (put_mid rejected_at (change_width * most_rejected) l zs) rejected_count n) h.is
-      ∙ (ap (λ l. set l rejected_count n) (put-rejected s zs z) ∙ (λ i. whole (counted xs (length L) (changes_section most_landed L) (length W) (changes_section most_waiting W) (count i) (w i))))
+      ∙ (ap (λ l. set l rejected_count n) (put_rejected s zs z) ∙ (λ i. whole (counted xs (length L) (changes_section most_landed L) (length W) (changes_section most_waiting W) (count i) (w i))))

@@ -11,7 +11,7 @@ use Rattle.run.specs.Run.{Run, heard, same_run}
 use Rattle.run.specs.declared.known.Known.TheVariants.{Nothing, Good, Bad}
 use Rattle.run.specs.declared.run.Run as declared
 use Rattle.run.proofs.Compared.{other_part, same_run_swap}
-use Rattle.run.proofs.Rows.{run_in-row}
+use Rattle.run.proofs.Rows.{run_in_row}
 
 -- the part of the queue that is the k-th verdict
 abbrev pub verdict_at : List ℕ → ℕ → List ℕ
@@ -35,30 +35,30 @@ module _ (cs : List Change) (xs : List ℕ) (n k : ℕ) (top stored : Run) (long
 
   compared : (b : Bool) → same_run stored top ≡ b → same_run top (run_in cs (drop at xs)) ≡ b
   compared b e =
-      let w = run_in-row cs (drop at xs) (at + verdict_width - at) (omega arith) (omega (arith, length-drop at xs)) in
+      let w = run_in_row cs (drop at xs) (at + verdict_width - at) (omega arith) (omega (arith, length-drop at xs)) in
       same_run_swap top (run_in cs (drop at xs)) ∙ (ap (λ r. same_run r top) (sym (is ∙ w)) ∙ e)
 
-  heard-next : (t g : Bool) → same_run stored top ≡ t → eqb (get_or (drop at xs) run_width 0) 1 ≡ g →
+  heard_next : (t g : Bool) → same_run stored top ≡ t → eqb (get_or (drop at xs) run_width 0) 1 ≡ g →
       heard top (rest (verdict_in cs) verdict_width xs verdicts_at n k) ≡ cond t (cond g Good Bad) (heard top (rest (verdict_in cs) verdict_width xs verdicts_at n (k + 1)))
-  heard-next t g e f =
+  heard_next t g e f =
       ap (heard top) (rest_more (verdict_in cs) verdict_width xs verdicts_at n k lt)
       ∙ (λ i. cond (compared t e i) (cond (f i) Good Bad) (heard top (rest (verdict_in cs) verdict_width xs verdicts_at n (k + 1))))
 
   pub heard-good : same_run stored top ≡ true → get_or (verdict_at xs k) run_width 0 ≡ 1 → heard top (rest (verdict_in cs) verdict_width xs verdicts_at n k) ≡ Good
-  heard-good e g = heard-next true true e (eq-eqb _ _ (sym (number_of_verdict xs k run_width (omega arith)) ∙ g))
+  heard-good e g = heard_next true true e (eq-eqb _ _ (sym (number_of_verdict xs k run_width (omega arith)) ∙ g))
 
-  pub heard-bad : same_run stored top ≡ true → (get_or (verdict_at xs k) run_width 0 ≡ 1 → ⊥) → heard top (rest (verdict_in cs) verdict_width xs verdicts_at n k) ≡ Bad
-  heard-bad e g = heard-next true false e (ne_eqb _ _ (λ q. g (number_of_verdict xs k run_width (omega arith) ∙ q)))
+  pub heard_bad : same_run stored top ≡ true → (get_or (verdict_at xs k) run_width 0 ≡ 1 → ⊥) → heard top (rest (verdict_in cs) verdict_width xs verdicts_at n k) ≡ Bad
+  heard_bad e g = heard_next true false e (ne_eqb _ _ (λ q. g (number_of_verdict xs k run_width (omega arith) ∙ q)))
 
-  pub heard-later : same_run stored top ≡ false → heard top (rest (verdict_in cs) verdict_width xs verdicts_at n k) ≡ heard top (rest (verdict_in cs) verdict_width xs verdicts_at n (k + 1))
-  heard-later e = heard-next false (eqb (get_or (drop at xs) run_width 0) 1) e (λ i. eqb (get_or (drop at xs) run_width 0) 1)
+  pub heard_later : same_run stored top ≡ false → heard top (rest (verdict_in cs) verdict_width xs verdicts_at n k) ≡ heard top (rest (verdict_in cs) verdict_width xs verdicts_at n (k + 1))
+  heard_later e = heard_next false (eqb (get_or (drop at xs) run_width 0) 1) e (λ i. eqb (get_or (drop at xs) run_width 0) 1)
 
 -- a verdict on a run of another part
 pub heard_elsewhere : (cs : List Change) (xs : List ℕ) (n k : ℕ) (top : Run) → verdicts_at + verdict_width * n ≤ length xs → k < n → (get_or (verdict_at xs k) 0 0 ≡ top.part → ⊥) →
     heard top (rest (verdict_in cs) verdict_width xs verdicts_at n k) ≡ heard top (rest (verdict_in cs) verdict_width xs verdicts_at n (k + 1))
 heard_elsewhere cs xs n k top long lt differ =
     let stored : Run = run_in cs (verdict_at xs k) in
-    heard-later cs xs n k top stored long lt (λ i. stored) (sym (other_part stored top differ))
+    heard_later cs xs n k top stored long lt (λ i. stored) (sym (other_part stored top differ))
 
 pub heard_none : (cs : List Change) (xs : List ℕ) (n k : ℕ) (top : Run) → n ≤ k → heard top (rest (verdict_in cs) verdict_width xs verdicts_at n k) ≡ Nothing
 heard_none cs xs n k top all = ap (heard top) (rest_all (verdict_in cs) verdict_width xs verdicts_at n k all)

@@ -6,7 +6,7 @@ use Rattle.std.proofs.lemmas.List.FromFn.{fill_by_all}
 use Rattle.change.specs.Change.{Change}
 use Rattle.change.specs.Records.{rows, table, change_in, change_row, change_width}
 use Rattle.change.proofs.Rows.{Local, rows_append, rows_take, length-rows}
-use Rattle.change.proofs.Changes.{length-change_row, read_row, change_in-local}
+use Rattle.change.proofs.Changes.{length-change_row, read_row, change_in_local}
 use Rattle.change.proofs.Tables.{joined_push, table_is, length-table, rows-table}
 use Rattle.run.specs.Records.{run_in, runs_in, run_row, run_width, verdict_in, verdicts_in, verdict_row, verdict_width, Ahead, AheadVerdict}
 use Rattle.run.proofs.Rows.{length-run_row, length-verdict_row, read_run_row, read_verdict_row, run_in-local, verdict_in-local}
@@ -21,8 +21,8 @@ pub record Records {A : Type 0} (f : List ℕ → A) (row : A → List ℕ) (w :
   pub long : (x : A) → length (row x) ≡ w
   pub reads : (x : A) (ys : List ℕ) → P x → f (row x ++ ys) ≡ x
 
-pub change-records : Records change_in change_row change_width Small
-change-records = record { local = change_in-local change_width (omega arith); long = length-change_row; reads = read_row }
+pub change_records : Records change_in change_row change_width Small
+change_records = record { local = change_in_local change_width (omega arith); long = length-change_row; reads = read_row }
 
 pub verdict_records : (landed : List Change) → Records (verdict_in landed) (verdict_row landed) verdict_width (AheadVerdict landed)
 verdict_records landed = record { local = verdict_in-local landed; long = length-verdict_row landed; reads = read_verdict_row landed }
@@ -83,9 +83,9 @@ unfolding decode encode
 decode_encode t q behind h =
     let xs : List ℕ = whole (sections_of t q behind) in
     let is : sections xs ≡ sections_of t q behind = sections-whole (sections_of t q behind) (sized_of t q behind h) in
-    let landed : landed_in xs ≡ q.landed = read_section change-records (change_width * most_landed) (drop landed_at xs) q.landed (ap (λ (s : Sections). s.landed) is) (omega (arith, h.landed)) h.small_landed in
-    let waiting : waiting_in xs ≡ q.waiting = read_section change-records (change_width * most_waiting) (drop waiting_at xs) q.waiting (ap (λ (s : Sections). s.waiting) is) (omega (arith, h.waiting)) h.small_waiting in
-    let rejected : rejected_in xs ≡ q.rejected = read_section change-records (change_width * most_rejected) (drop rejected_at xs) q.rejected (ap (λ (s : Sections). s.rejected) is) (omega (arith, h.rejected)) h.small_rejected in
+    let landed : landed_in xs ≡ q.landed = read_section change_records (change_width * most_landed) (drop landed_at xs) q.landed (ap (λ (s : Sections). s.landed) is) (omega (arith, h.landed)) h.small_landed in
+    let waiting : waiting_in xs ≡ q.waiting = read_section change_records (change_width * most_waiting) (drop waiting_at xs) q.waiting (ap (λ (s : Sections). s.waiting) is) (omega (arith, h.waiting)) h.small_waiting in
+    let rejected : rejected_in xs ≡ q.rejected = read_section change_records (change_width * most_rejected) (drop rejected_at xs) q.rejected (ap (λ (s : Sections). s.rejected) is) (omega (arith, h.rejected)) h.small_rejected in
     let verdicts_read = read_section (verdict_records q.landed) (verdict_width * most_verdicts) (drop verdicts_at xs) q.verdicts (ap (λ (s : Sections). s.verdicts) is) (omega (arith, h.verdicts)) h.verdicts_ahead in
     let running_read = read_section (run-records q.landed) (run_width * most_running) (drop running_at xs) q.running (ap (λ (s : Sections). s.running) is) (omega (arith, h.running)) h.running_ahead in
     let verdicts = ap (λ cs. verdicts_in cs (length q.verdicts) (drop verdicts_at xs)) landed ∙ verdicts_read in
@@ -105,9 +105,9 @@ encode_decode xs t =
     let counters =
     (λ i. get_or xs benches_at 0 ∷ get_or xs depth_at 0 ∷ length_landed i ∷ length-waiting i ∷ length_rejected i ∷ length_verdicts i ∷ length-running i ∷ get_or xs requested_at 0 ∷ [])
     ∙ sym (fill_by_all (λ k. get_or xs k 0) (sections xs).counters landed_at 0 (sized_sections xs t.long).counters (get_counter xs)) in
-    let landed = write_section change-records (get_or xs landed_count 0) (change_width * most_landed) (drop landed_at xs) t.landed (omega (arith, t.few_landed)) (omega (arith, t.long, length-drop landed_at xs)) in
-    let waiting = write_section change-records (get_or xs waiting_count 0) (change_width * most_waiting) (drop waiting_at xs) t.waiting (omega (arith, t.few_waiting)) (omega (arith, t.long, length-drop waiting_at xs)) in
-    let rejected = write_section change-records (get_or xs rejected_count 0) (change_width * most_rejected) (drop rejected_at xs) t.rejected (omega (arith, t.few_rejected)) (omega (arith, t.long, length-drop rejected_at xs)) in
+    let landed = write_section change_records (get_or xs landed_count 0) (change_width * most_landed) (drop landed_at xs) t.landed (omega (arith, t.few_landed)) (omega (arith, t.long, length-drop landed_at xs)) in
+    let waiting = write_section change_records (get_or xs waiting_count 0) (change_width * most_waiting) (drop waiting_at xs) t.waiting (omega (arith, t.few_waiting)) (omega (arith, t.long, length-drop waiting_at xs)) in
+    let rejected = write_section change_records (get_or xs rejected_count 0) (change_width * most_rejected) (drop rejected_at xs) t.rejected (omega (arith, t.few_rejected)) (omega (arith, t.long, length-drop rejected_at xs)) in
     let verdicts = write_section (verdict_records cs) (get_or xs verdicts_count 0) (verdict_width * most_verdicts) (drop verdicts_at xs) t.verdicts (omega (arith, t.few_verdicts)) (omega (arith, t.long, length-drop verdicts_at xs)) in
     let running = write_section (run-records cs) (get_or xs running_count 0) (run_width * most_running) (drop running_at xs) t.running (omega (arith, t.few_running)) (omega (arith, t.long, length-drop running_at xs)) in
     let is : sections_of (config_in xs) (decode xs) (drop queue_length xs) ≡ sections xs =

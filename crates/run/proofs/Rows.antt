@@ -80,8 +80,8 @@ module _ (landed : List Change) where
       λ i. r.part ∷ begins i ∷ sym n i ∷ fixed most_following (sym f i)
 
 -- a run is in the first numbers of a longer record
-pub run_in-row : (landed : List Change) (xs : List ℕ) (w : ℕ) → run_width ≤ w → w ≤ length xs → run_in landed (take w xs) ≡ run_in landed xs
-run_in-row landed xs w wide long =
+pub run_in_row : (landed : List Change) (xs : List ℕ) (w : ℕ) → run_width ≤ w → w ≤ length xs → run_in landed (take w xs) ≡ run_in landed xs
+run_in_row landed xs w wide long =
     sym (run_in-local landed (take w xs) (drop w xs) (omega (arith, length-take-le w xs long))) ∙ ap (run_in landed) (take-append-drop w xs)
 
 -- the record of a verdict on a run by value is as long as it should be

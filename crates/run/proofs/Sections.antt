@@ -60,8 +60,8 @@ take_front (p ∷ ps) xs ys a e =
     ∙ (ap (λ l. l ++ ys) (take-append-add p (pieces ps xs) (lengths ps)) ∙ (append_assoc p (take (lengths ps) (pieces ps xs)) ys ∙ ap (λ l. p ++ l) (take_front ps xs ys (lengths ps) refl)))
 
 -- a piece that is written over, behind any number of others
-put-behind : (ps : List (List ℕ)) (q r ys : List ℕ) (a k : ℕ) → lengths ps ≡ a → length q ≡ k → put_mid a k (pieces ps (q ++ r)) ys ≡ pieces ps (ys ++ r)
-put-behind ps q r ys a k e f =
+put_behind : (ps : List (List ℕ)) (q r ys : List ℕ) (a k : ℕ) → lengths ps ≡ a → length q ≡ k → put_mid a k (pieces ps (q ++ r)) ys ≡ pieces ps (ys ++ r)
+put_behind ps q r ys a k e f =
     take_front ps (q ++ r) (ys ++ drop k (drop a (pieces ps (q ++ r)))) a e
     ∙ ap (λ l. pieces ps (ys ++ l)) (ap (drop k) (drop-behind ps (q ++ r) a e) ∙ drop_at q r k f)
 
@@ -84,39 +84,39 @@ before_running s = s.counters ∷ s.landed ∷ s.waiting ∷ s.rejected ∷ s.ve
 abbrev before_behind : Sections → List (List ℕ)
 before_behind s = s.counters ∷ s.landed ∷ s.waiting ∷ s.rejected ∷ s.verdicts ∷ s.running ∷ []
 
-landed-begins : (s : Sections) → Sized s → lengths (before_landed s) ≡ landed_at
-landed-begins s z = omega (arith, z.counters)
+landed_begins : (s : Sections) → Sized s → lengths (before_landed s) ≡ landed_at
+landed_begins s z = omega (arith, z.counters)
 
-waiting-begins : (s : Sections) → Sized s → lengths (before_waiting s) ≡ waiting_at
-waiting-begins s z = omega (arith, z.counters, z.landed)
+waiting_begins : (s : Sections) → Sized s → lengths (before_waiting s) ≡ waiting_at
+waiting_begins s z = omega (arith, z.counters, z.landed)
 
-rejected-begins : (s : Sections) → Sized s → lengths (before_rejected s) ≡ rejected_at
-rejected-begins s z = omega (arith, z.counters, z.landed, z.waiting)
+rejected_begins : (s : Sections) → Sized s → lengths (before_rejected s) ≡ rejected_at
+rejected_begins s z = omega (arith, z.counters, z.landed, z.waiting)
 
-verdicts-begins : (s : Sections) → Sized s → lengths (before_verdicts s) ≡ verdicts_at
-verdicts-begins s z = omega (arith, z.counters, z.landed, z.waiting, z.rejected)
+verdicts_begins : (s : Sections) → Sized s → lengths (before_verdicts s) ≡ verdicts_at
+verdicts_begins s z = omega (arith, z.counters, z.landed, z.waiting, z.rejected)
 
-running-begins : (s : Sections) → Sized s → lengths (before_running s) ≡ running_at
-running-begins s z = omega (arith, z.counters, z.landed, z.waiting, z.rejected, z.verdicts)
+running_begins : (s : Sections) → Sized s → lengths (before_running s) ≡ running_at
+running_begins s z = omega (arith, z.counters, z.landed, z.waiting, z.rejected, z.verdicts)
 
-behind-begins : (s : Sections) → Sized s → lengths (before_behind s) ≡ queue_length
-behind-begins s z = omega (arith, z.counters, z.landed, z.waiting, z.rejected, z.verdicts, z.running)
+behind_begins : (s : Sections) → Sized s → lengths (before_behind s) ≡ queue_length
+behind_begins s z = omega (arith, z.counters, z.landed, z.waiting, z.rejected, z.verdicts, z.running)
 
 -- how a section is written over
-pub put-landed : (s : Sections) (ys : List ℕ) → Sized s → put_mid landed_at (change_width * most_landed) (whole s) ys ≡ whole (landed_as ys s)
-put-landed s ys z = put-behind (before_landed s) s.landed _ ys landed_at (change_width * most_landed) (landed-begins s z) z.landed
+pub put_landed : (s : Sections) (ys : List ℕ) → Sized s → put_mid landed_at (change_width * most_landed) (whole s) ys ≡ whole (landed_as ys s)
+put_landed s ys z = put_behind (before_landed s) s.landed _ ys landed_at (change_width * most_landed) (landed_begins s z) z.landed
 
-pub put-waiting : (s : Sections) (ys : List ℕ) → Sized s → put_mid waiting_at (change_width * most_waiting) (whole s) ys ≡ whole (waiting_as ys s)
-put-waiting s ys z = put-behind (before_waiting s) s.waiting _ ys waiting_at (change_width * most_waiting) (waiting-begins s z) z.waiting
+pub put_waiting : (s : Sections) (ys : List ℕ) → Sized s → put_mid waiting_at (change_width * most_waiting) (whole s) ys ≡ whole (waiting_as ys s)
+put_waiting s ys z = put_behind (before_waiting s) s.waiting _ ys waiting_at (change_width * most_waiting) (waiting_begins s z) z.waiting
 
-pub put-rejected : (s : Sections) (ys : List ℕ) → Sized s → put_mid rejected_at (change_width * most_rejected) (whole s) ys ≡ whole (rejected_as ys s)
-put-rejected s ys z = put-behind (before_rejected s) s.rejected _ ys rejected_at (change_width * most_rejected) (rejected-begins s z) z.rejected
+pub put_rejected : (s : Sections) (ys : List ℕ) → Sized s → put_mid rejected_at (change_width * most_rejected) (whole s) ys ≡ whole (rejected_as ys s)
+put_rejected s ys z = put_behind (before_rejected s) s.rejected _ ys rejected_at (change_width * most_rejected) (rejected_begins s z) z.rejected
 
-pub put-verdicts : (s : Sections) (ys : List ℕ) → Sized s → put_mid verdicts_at (verdict_width * most_verdicts) (whole s) ys ≡ whole (verdicts_as ys s)
-put-verdicts s ys z = put-behind (before_verdicts s) s.verdicts _ ys verdicts_at (verdict_width * most_verdicts) (verdicts-begins s z) z.verdicts
+pub put_verdicts : (s : Sections) (ys : List ℕ) → Sized s → put_mid verdicts_at (verdict_width * most_verdicts) (whole s) ys ≡ whole (verdicts_as ys s)
+put_verdicts s ys z = put_behind (before_verdicts s) s.verdicts _ ys verdicts_at (verdict_width * most_verdicts) (verdicts_begins s z) z.verdicts
 
-pub put-running : (s : Sections) (ys : List ℕ) → Sized s → put_mid running_at (run_width * most_running) (whole s) ys ≡ whole (running_as ys s)
-put-running s ys z = put-behind (before_running s) s.running _ ys running_at (run_width * most_running) (running-begins s z) z.running
+pub put_running : (s : Sections) (ys : List ℕ) → Sized s → put_mid running_at (run_width * most_running) (whole s) ys ≡ whole (running_as ys s)
+put_running s ys z = put_behind (before_running s) s.running _ ys running_at (run_width * most_running) (running_begins s z) z.running
 
 -- counters stand in the first section
 pub get_counter : (xs : List ℕ) (k : ℕ) → k < landed_at → get_or (sections xs).counters k 0 ≡ get_or xs k 0
@@ -152,12 +152,12 @@ sized_sections xs le =
 pub sections-whole : (s : Sections) → Sized s → sections (whole s) ≡ s
 sections-whole s z =
     let counters = take_at s.counters _ landed_at z.counters in
-    let landed = take_behind (before_landed s) s.landed _ landed_at (change_width * most_landed) (landed-begins s z) z.landed in
-    let waiting = take_behind (before_waiting s) s.waiting _ waiting_at (change_width * most_waiting) (waiting-begins s z) z.waiting in
-    let rejected = take_behind (before_rejected s) s.rejected _ rejected_at (change_width * most_rejected) (rejected-begins s z) z.rejected in
-    let verdicts = take_behind (before_verdicts s) s.verdicts _ verdicts_at (verdict_width * most_verdicts) (verdicts-begins s z) z.verdicts in
-    let running = take_behind (before_running s) s.running _ running_at (run_width * most_running) (running-begins s z) z.running in
-    let behind = drop-behind (before_behind s) s.behind queue_length (behind-begins s z) in
+    let landed = take_behind (before_landed s) s.landed _ landed_at (change_width * most_landed) (landed_begins s z) z.landed in
+    let waiting = take_behind (before_waiting s) s.waiting _ waiting_at (change_width * most_waiting) (waiting_begins s z) z.waiting in
+    let rejected = take_behind (before_rejected s) s.rejected _ rejected_at (change_width * most_rejected) (rejected_begins s z) z.rejected in
+    let verdicts = take_behind (before_verdicts s) s.verdicts _ verdicts_at (verdict_width * most_verdicts) (verdicts_begins s z) z.verdicts in
+    let running = take_behind (before_running s) s.running _ running_at (run_width * most_running) (running_begins s z) z.running in
+    let behind = drop-behind (before_behind s) s.behind queue_length (behind_begins s z) in
     λ i. record { counters = counters i; landed = landed i; waiting = waiting i; rejected = rejected i; verdicts = verdicts i; running = running i; behind = behind i }
 
 -- sections of the right lengths, joined, are long enough

@@ -34,10 +34,10 @@ module _ (xs : List declared.Change) (i : ℕ) (x : declared.Change) (lt : i < l
 
   -- a change that passes lands, and what is rejected of the others is what is rejected on top of it
   module _ (bench : Bench) (landed : List Change) where
-    pub landed-pass : (after : List Change) → true ≡ passes bench landed (change_of x) → after ≡ landed ++ change_of x ∷ [] →
+    pub landed_pass : (after : List Change) → true ≡ passes bench landed (change_of x) → after ≡ landed ++ change_of x ∷ [] →
         serial_landed bench landed (map change_of (drop i xs)) ≡ serial_landed bench after (map change_of (drop (i + 1) xs))
     unfolding serial_landed
-    landed-pass after e a =
+    landed_pass after e a =
         ap (serial_landed bench landed) changes_more
         ∙ (ap (λ b. serial_landed bench (cond b (landed ++ change_of x ∷ []) landed) (map change_of (drop (i + 1) xs))) (sym e) ∙ ap (λ l. serial_landed bench l (map change_of (drop (i + 1) xs))) (sym a))
 
@@ -47,10 +47,10 @@ module _ (xs : List declared.Change) (i : ℕ) (x : declared.Change) (lt : i < l
     landed_fail e =
         ap (serial_landed bench landed) changes_more ∙ ap (λ b. serial_landed bench (cond b (landed ++ change_of x ∷ []) landed) (map change_of (drop (i + 1) xs))) (sym e)
 
-    pub rejected-pass : (after : List Change) → true ≡ passes bench landed (change_of x) → after ≡ landed ++ change_of x ∷ [] →
+    pub rejected_pass : (after : List Change) → true ≡ passes bench landed (change_of x) → after ≡ landed ++ change_of x ∷ [] →
         serial_rejected bench landed (map change_of (drop i xs)) ≡ serial_rejected bench after (map change_of (drop (i + 1) xs))
     unfolding serial_rejected
-    rejected-pass after e a =
+    rejected_pass after e a =
         ap (serial_rejected bench landed) changes_more
         ∙ (ap (λ b. cond b (serial_rejected bench (landed ++ change_of x ∷ []) (map change_of (drop (i + 1) xs))) (change_of x ∷ serial_rejected bench landed (map change_of (drop (i + 1) xs)))) (sym e)
         ∙ ap (λ l. serial_rejected bench l (map change_of (drop (i + 1) xs))) (sym a))

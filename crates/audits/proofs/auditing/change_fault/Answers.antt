@@ -1,7 +1,7 @@
 use Rattle.std.proofs.Common.{◌+◌, [], ◌∷◌, map, get_or, take, drop, sym, ap, ◌∙◌}
 use Rattle.change.specs.Records.{change_of}
 use Rattle.audits.specs.Audit.{first_fault, states_at, verdict_of}
-use Rattle.audits.proofs.States.{found_none, found_one, states_at-all, states_at_more}
+use Rattle.audits.proofs.States.{found_none, found_one, states_at_all, states_at_more}
 use Rattle.audits.proofs.auditing.change_fault.Goals as goal
 
 pub returns-then-is_some : goal.returns-then-is_some
@@ -22,4 +22,4 @@ loop-i-preserved c =
 
 pub returns : goal.returns
 returns c =
-    ap (first_fault (map verdict_of c.args.verdicts.now)) (sym (states_at-all (map change_of c.args.main.now) c.args.c c.loop-i.i c.loop-i-test.false c.args.c.long)) ∙ c.loop-i.invariant
+    ap (first_fault (map verdict_of c.args.verdicts.now)) (sym (states_at_all (map change_of c.args.main.now) c.args.c c.loop-i.i c.loop-i-test.false c.args.c.long)) ∙ c.loop-i.invariant

@@ -1,6 +1,6 @@
 use Rattle.std.proofs.Common.{◌∙◌}
-use Rattle.change.proofs.Changes.{change_in-part}
+use Rattle.change.proofs.Changes.{change_in_part}
 use Rattle.change.proofs.records.change_at.Goals as goal
 
 pub returns : goal.returns
-returns c = c.read_change.ensures ∙ change_in-part c.args.queue.now c.args.at
+returns c = c.read_change.ensures ∙ change_in_part c.args.queue.now c.args.at

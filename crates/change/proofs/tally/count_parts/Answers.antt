@@ -1,7 +1,7 @@
 use Rattle.std.proofs.Common.{◌≡◌, ℕ, ◌+◌, ◌<◌, true, false, cond, List, length, get_or, take, sym, refl, ap, ◌∙◌, ⊎_elim, arith, length-set}
 use Rattle.std.proofs.lemmas.Bool.{cases_Bool}
 use Rattle.change.specs.Change.{has}
-use Rattle.change.proofs.Seen.{seen_same, seen_other, count-step, stamp_step}
+use Rattle.change.proofs.Seen.{seen_same, seen_other, count_step, stamp_step}
 use Rattle.change.proofs.tally.count_parts.Goals as goal
 use Rattle.change.proofs.tally.count_parts.Goals.{then-p-lt-PART_LIMIT+then-stamps-p, then-p-lt-PART_LIMIT+else-stamps-p, else-p-lt-PART_LIMIT}
 
@@ -17,7 +17,7 @@ loop-i-preserved c =
           let new : has (take i ps) q ≡ false = ⊎_elim
           (λ e. absurd (w.if-stamps-p.true (c.loop-i.invariant.1 q lq ∙ ap (λ b. cond b c.args.stamp (get_or c.args.stamps.now q 0)) e)))
           (λ e. e) (cases_Bool (has (take i ps) q)) in (
-            λ p h. ap (λ l. get_or l p 0) w.counts-is ∙ count-step ps i q lt refl c.loop-i.counts c.args.counts.now p (omega arith) new (c.loop-i.invariant.0 p h),
+            λ p h. ap (λ l. get_or l p 0) w.counts-is ∙ count_step ps i q lt refl c.loop-i.counts c.args.counts.now p (omega arith) new (c.loop-i.invariant.0 p h),
             λ p h. ap (λ l. get_or l p 0) w.stamps-is ∙ stamp_step ps i q lt refl c.loop-i.stamps c.args.stamps.now c.args.stamp p (omega arith) (c.loop-i.invariant.1 p h),
             ap length w.counts-is ∙ (length-set c.loop-i.counts q (get_or c.loop-i.counts q 0 + 1) ∙ c.loop-i.invariant.2),
             ap length w.stamps-is ∙ (length-set c.loop-i.stamps q c.args.stamp ∙ c.loop-i.invariant.3),

@@ -7,14 +7,14 @@ use Rattle.run.specs.Layout.{verdicts_at, verdicts_count, waiting_at, waiting_co
 use Rattle.run.specs.Numbers.{Settled, landed_in, waiting_in}
 use Rattle.run.specs.Records.{run_of, verdict_in, verdict_width, verdicts_in}
 use Rattle.run.specs.Run.{Verdict, heard, runs_on}
-use Rattle.run.proofs.Changed.{count-landed}
+use Rattle.run.proofs.Changed.{count_landed}
 use Rattle.run.proofs.Heard.{heard_elsewhere, stored_fits}
 use Rattle.decide.specs.Decide.{decision, decision_by, shares_any}
 use Rattle.decide.specs.declared.decision.Decision.{Decision}
 use Rattle.decide.specs.declared.decision.Decision.TheVariants.{Wait, Land, Reject}
 use Rattle.decide.proofs.Moves.{tallies_land}
-use Rattle.decide.proofs.Looks.{looked, looks-bad, looks-good, looks_in_vain, looks_on, shares_no, shares_none, shares_yes}
-use Rattle.decide.proofs.Turns.{Underway, behind, behind-stays, by_runs, done, done-state, held_verdicts, lands, rejects, stays, taken_out, turned_decided, turned_held, turned_none}
+use Rattle.decide.proofs.Looks.{looked, looks_bad, looks_good, looks_in_vain, looks_on, shares_no, shares_none, shares_yes}
+use Rattle.decide.proofs.Turns.{Underway, behind, behind_stays, by_runs, done, done_state, held_verdicts, lands, rejects, stays, taken_out, turned_decided, turned_held, turned_none}
 use Rattle.decide.proofs.passing.pass.Goals as goal
 use Rattle.decide.proofs.passing.pass.Goals.{else-parts-test, then-parts-test+then-loop-k-test+else-verdict-part+then-same_as+else-good-eq1, in-Wait, in-Land, in-Reject}
 
@@ -79,7 +79,7 @@ parts-preserved-then-good-eq1 c =
     let xs : List ℕ = c.changes.queue in
     let cs : List Change = landed_in xs in
     let u : Underway c.args.queue.now xs (c.changes.turn - c.changes.decided) = c.changes.invariant.underway in
-    let l = looks-good cs xs (get_or c.args.queue.now verdicts_count 0) c.loop-k.k c.parts.p c.change_at-c.result (run_of cs c.read_run-stored.result) (run_of cs c.run_on_top-top.result) c.same_as.result
+    let l = looks_good cs xs (get_or c.args.queue.now verdicts_count 0) c.loop-k.k c.parts.p c.change_at-c.result (run_of cs c.read_run-stored.result) (run_of cs c.run_on_top-top.result) c.same_as.result
     (omega (arith, u.settled.long, u.settled.few_verdicts, u.count)) c.loop-k-test.true (omega (arith, c.change_at-c.result.few, c.change_at-c.result.long)) c.parts-test.true (c.read_run-stored.ensures.value cs) c.same_as.ensures
     (c.run_on_top-top.ensures.value cs c.count_of-begins.ensures) c.loop-k.invariant.1
     c.parts.decision c.if-same_as.true c.if-good-eq1.true in
@@ -117,7 +117,7 @@ land-requires c =
 
 pub count_landed-requires : goal.count_landed-requires
 count_landed-requires c =
-    λ p lt. omega (arith, c.changes.invariant.tallied p lt, length-line_le p (landed_in c.changes.queue), count-landed c.changes.queue, c.changes.invariant.underway.settled.few_landed)
+    λ p lt. omega (arith, c.changes.invariant.tallied p lt, length-line_le p (landed_in c.changes.queue), count_landed c.changes.queue, c.changes.invariant.underway.settled.few_landed)
 
 pub take_out-requires-in-Reject : goal.take_out-requires-in-Reject
 take_out-requires-in-Reject c = record { settled = c.changes.invariant.underway.settled; there = omega (arith, c.changes.invariant.fewer, c.changes.invariant.left, c.changes-test.true) }
@@ -145,7 +145,7 @@ changes-preserved c =
     let l : c.parts-test.decision ≡ decision_by Land (runs_on cs x.number x.parts) vs = elim c.parts-test.branch [
       | else-parts-test w ↦ w.decision-is ∙ (sym (looked cs vs c.parts.p c.change_at-c.result c.parts.decision w.parts-test.false) ∙ c.parts.invariant)
       | then-parts-test+then-loop-k-test+else-verdict-part+then-same_as+else-good-eq1 w ↦
-          w.decision-is ∙ (sym (looks-bad cs xs (get_or c.args.queue.now verdicts_count 0) w.loop-k.k c.parts.p c.change_at-c.result (run_of cs w.read_run-stored.result) (run_of cs w.run_on_top-top.result) w.same_as.result
+          w.decision-is ∙ (sym (looks_bad cs xs (get_or c.args.queue.now verdicts_count 0) w.loop-k.k c.parts.p c.change_at-c.result (run_of cs w.read_run-stored.result) (run_of cs w.run_on_top-top.result) w.same_as.result
           (omega (arith, u.settled.long, u.settled.few_verdicts, u.count)) w.loop-k-test.true (omega (arith, c.change_at-c.result.few, c.change_at-c.result.long)) w.parts-test.true (w.read_run-stored.ensures.value cs) w.same_as.ensures
           (w.run_on_top-top.ensures.value cs w.count_of-begins.ensures) w.loop-k.invariant.1
           c.parts.decision w.if-same_as.true w.if-good-eq1.false) ∙ c.parts.invariant)
@@ -172,8 +172,8 @@ returns c =
     let all : get_or c.changes.queue waiting_count 0 ≤ i = omega (arith, t.fewer, t.left, c.changes-test.false) in
     record {
       passed = done c.args.queue.now c.changes.queue i t.underway all;
-      state = done-state c.args.queue.now c.changes.queue i t.underway all;
-      behind = behind-stays c.args.queue.now c.changes.queue i t.underway;
+      state = done_state c.args.queue.now c.changes.queue i t.underway all;
+      behind = behind_stays c.args.queue.now c.changes.queue i t.underway;
       settled = t.underway.settled;
       tallied = t.tallied;
     }

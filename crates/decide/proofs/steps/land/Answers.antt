@@ -4,7 +4,7 @@ use Rattle.change.specs.Change.{Change}
 use Rattle.change.specs.Records.{change_of, change_row, change_width, written}
 use Rattle.run.specs.Layout.{landed_count, most_landed}
 use Rattle.run.specs.Numbers.{landed_in}
-use Rattle.run.proofs.Changed.{count-landed, landed-written}
+use Rattle.run.proofs.Changed.{count_landed, landed-written}
 use Rattle.decide.proofs.Moves.{section_more}
 use Rattle.decide.proofs.steps.land.Goals as goal
 
@@ -13,5 +13,5 @@ returns c =
     let xs : List ℕ = c.args.queue.now in
     let x : Change = change_of c.args.c in
     let n : ℕ = get_or xs landed_count 0 in
-    landed-written xs c.append_change.new.section (landed_in xs ++ x ∷ []) (n + 1) c.requires.settled (omega (arith, count-landed xs, length_push (landed_in xs) x))
-    (λ e. c.append_change.ensures ∙ (ap (written (change_width * n) (change_row x)) e ∙ section_more most_landed (landed_in xs) x n (sym (count-landed xs)) c.requires.few))
+    landed-written xs c.append_change.new.section (landed_in xs ++ x ∷ []) (n + 1) c.requires.settled (omega (arith, count_landed xs, length_push (landed_in xs) x))
+    (λ e. c.append_change.ensures ∙ (ap (written (change_width * n) (change_row x)) e ∙ section_more most_landed (landed_in xs) x n (sym (count_landed xs)) c.requires.few))

@@ -7,11 +7,11 @@ use Rattle.run.specs.Run.{Run}
 use Rattle.run.specs.Records.{run_of, run_in, run_row, run_width, runs_in, Ahead}
 use Rattle.run.specs.Layout.{running_at, running_count, most_running}
 use Rattle.run.specs.Numbers.{landed_in}
-use Rattle.run.proofs.Rows.{run_in-row, length-run_row}
+use Rattle.run.proofs.Rows.{run_in_row, length-run_row}
 use Rattle.plan.specs.Plan.{among}
 use Rattle.plan.specs.Numbers.{useful_now}
 use Rattle.plan.proofs.Among.{useful_ahead}
-use Rattle.plan.proofs.Kept.{keep_yes, keep_no, kept-held, table_none, stored_at}
+use Rattle.plan.proofs.Kept.{keep_yes, keep_no, kept_held, table_none, stored_at}
 use Rattle.plan.proofs.keeping.keep_running.Goals as goal
 use Rattle.plan.proofs.keeping.keep_running.Goals.{in-Some, in-None}
 
@@ -41,7 +41,7 @@ loop-k-preserved c =
     let lt = c.loop-k-test.true in
     let x : Run = run_in cs (drop at xs) in
     let s = c.requires.ready.settled in
-    let r : run_of cs c.read_run-stored.result ≡ x = c.read_run-stored.ensures.value cs ∙ run_in-row cs (drop at xs) (at + run_width - at) (omega arith) (omega (arith, length-drop at xs, s.long, s.few_running)) in
+    let r : run_of cs c.read_run-stored.result ≡ x = c.read_run-stored.ensures.value cs ∙ run_in_row cs (drop at xs) (at + run_width - at) (omega arith) (omega (arith, length-drop at xs, s.long, s.few_running)) in
     elim c.match-find_useful.branch [
       | in-Some w ↦
           let e = w.in-Some.ensures in
@@ -62,5 +62,5 @@ returns c =
     let xs : List ℕ = c.args.queue.now in
     let cs : List Change = landed_in xs in
     let k : c.loop-k.k ≡ get_or xs running_count 0 = omega arith in
-    kept-held (run_row cs) (Ahead cs) run_width most_running c.loop-k.found (λ (v : Run). among v (useful_now xs)) (λ v h. useful_ahead xs c.args.tally.now v c.requires.ready h) c.loop-k.out
+    kept_held (run_row cs) (Ahead cs) run_width most_running c.loop-k.found (λ (v : Run). among v (useful_now xs)) (λ v h. useful_ahead xs c.args.tally.now v c.requires.ready h) c.loop-k.out
     (runs_in cs (get_or xs running_count 0) (drop running_at xs)) (omega (arith, length-rows (run_in cs) run_width (get_or xs running_count 0) (drop running_at xs), c.requires.ready.settled.few_running)) (rw k at c.loop-k.invariant.0) (rw k at c.loop-k.invariant.1)

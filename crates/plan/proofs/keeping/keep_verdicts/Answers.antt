@@ -9,11 +9,11 @@ use Rattle.run.specs.Records.{run_of, run_in, verdict_in, row_of, verdict_row_of
 use Rattle.run.specs.declared.run.Run as declared
 use Rattle.run.specs.Layout.{verdicts_at, verdicts_count, most_verdicts}
 use Rattle.run.specs.Numbers.{landed_in}
-use Rattle.run.proofs.Rows.{run_in-row, length-verdict_row}
+use Rattle.run.proofs.Rows.{run_in_row, length-verdict_row}
 use Rattle.plan.specs.Plan.{among}
 use Rattle.plan.specs.Numbers.{useful_now}
 use Rattle.plan.proofs.Among.{useful_ahead}
-use Rattle.plan.proofs.Kept.{keep_yes, keep_no, kept-held, table_none, stored_at}
+use Rattle.plan.proofs.Kept.{keep_yes, keep_no, kept_held, table_none, stored_at}
 use Rattle.plan.proofs.keeping.keep_verdicts.Goals as goal
 use Rattle.plan.proofs.keeping.keep_verdicts.Goals.{in-Some, in-None}
 
@@ -49,7 +49,7 @@ loop-k-preserved c =
     let lt = c.loop-k-test.true in
     let x : Verdict = verdict_in cs (drop at xs) in
     let s = c.requires.ready.settled in
-    let r : run_of cs c.read_run-stored.result ≡ x.run = c.read_run-stored.ensures.value cs ∙ run_in-row cs (drop at xs) (at + verdict_width - at) (omega arith) (omega (arith, length-drop at xs, s.long, s.few_verdicts)) in
+    let r : run_of cs c.read_run-stored.result ≡ x.run = c.read_run-stored.ensures.value cs ∙ run_in_row cs (drop at xs) (at + verdict_width - at) (omega arith) (omega (arith, length-drop at xs, s.long, s.few_verdicts)) in
     elim c.match-find_useful.branch [
       | in-Some w ↦
           let e = w.in-Some.ensures in
@@ -70,5 +70,5 @@ returns c =
     let xs : List ℕ = c.args.queue.now in
     let cs : List Change = landed_in xs in
     let k : c.loop-k.k ≡ get_or xs verdicts_count 0 = omega arith in
-    kept-held (verdict_row cs) (AheadVerdict cs) verdict_width most_verdicts c.loop-k.found (λ (v : Verdict). among v.run (useful_now xs)) (λ v h. useful_ahead xs c.args.tally.now v.run c.requires.ready h) c.loop-k.out
+    kept_held (verdict_row cs) (AheadVerdict cs) verdict_width most_verdicts c.loop-k.found (λ (v : Verdict). among v.run (useful_now xs)) (λ v h. useful_ahead xs c.args.tally.now v.run c.requires.ready h) c.loop-k.out
     (verdicts_in cs (get_or xs verdicts_count 0) (drop verdicts_at xs)) (omega (arith, length-rows (verdict_in cs) verdict_width (get_or xs verdicts_count 0) (drop verdicts_at xs), c.requires.ready.settled.few_verdicts)) (rw k at c.loop-k.invariant.0) (rw k at c.loop-k.invariant.1)

@@ -3,7 +3,7 @@ use Rattle.run.specs.Layout.{benches_at, depth_at, requested_at}
 use Rattle.run.specs.Numbers.{encode}
 use Rattle.plan.specs.Plan.{planned}
 use Rattle.queue.specs.declared.reply.Reply.TheVariants.{Done}
-use Rattle.queue.proofs.Advanced.{says-passed}
+use Rattle.queue.proofs.Advanced.{says_passed}
 use Rattle.queue.proofs.entry.advance.Goals as goal
 
 pub pass-requires : goal.pass-requires
@@ -24,7 +24,7 @@ plan_runs-requires c =
 
 pub returns : goal.returns
 returns c =
-    let said = says-passed c.args.queue.now c.pass.new.queue c.pass.ensures.settled c.pass.ensures.state c.pass.ensures.passed c.pass.ensures.behind in
+    let said = says_passed c.args.queue.now c.pass.new.queue c.pass.ensures.settled c.pass.ensures.state c.pass.ensures.passed c.pass.ensures.behind in
     let is = c.plan_runs.ensures.is ∙ (λ i. encode (said.config i) (planned (said.config i) (said.state i)) (said.behind i)) in
     let running = c.plan_runs.ensures.running ∙ (λ i. length (planned (said.config i) (said.state i)).running) in
     λ i. (Done (running i), is i)

@@ -3,7 +3,7 @@ use Rattle.run.specs.Records.{run_in, run_width}
 use Rattle.run.specs.Layout.{running_at}
 use Rattle.run.specs.State.{Queue}
 use Rattle.queue.specs.Queue.{answered, recorded}
-use Rattle.queue.proofs.Recorded.{says-next, says_same}
+use Rattle.queue.proofs.Recorded.{says_next, says_same}
 use Rattle.queue.proofs.Reported.{says_reported}
 use Rattle.queue.proofs.recording.record_report.Goals as goal
 
@@ -19,4 +19,4 @@ returns c =
     said.settled sound.counted.verdicts sound.counted.running c.requires.few c.requires.there c.append_verdict.ensures c.remove_record.ensures
     (λ landed. c.read_run-run.ensures.value landed ∙ ap (λ u. run_in landed (take u (drop at ys))) w)
     (c.read_run-run.ensures.part ∙ ap (λ u. get_or (take u (drop at ys)) 0 0) w) (c.read_run-run.ensures.begins ∙ ap (λ u. get_or (take u (drop at ys)) 1 0) w) in
-    says-next c.args.queue.now ys c.count_runs.new.queue _ _ _ said (says_same ys _ c.count_runs.new.queue _ next c.count_runs.ensures) (ap (λ (q : Queue). answered q c.args.place c.args.good) said.state)
+    says_next c.args.queue.now ys c.count_runs.new.queue _ _ _ said (says_same ys _ c.count_runs.new.queue _ next c.count_runs.ensures) (ap (λ (q : Queue). answered q c.args.place c.args.good) said.state)

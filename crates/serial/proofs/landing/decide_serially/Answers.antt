@@ -2,7 +2,7 @@ use Rattle.std.proofs.Common.{◌≡◌, ◌+◌, [], ◌∷◌, ◌++◌, map, 
 use Rattle.std.proofs.lemmas.List.{append-nil, drop_all, map_push}
 use Rattle.change.specs.Records.{change_of}
 use Rattle.serial.specs.Serial.{passes, serial_landed, serial_rejected}
-use Rattle.serial.proofs.Steps.{landed-pass, landed_fail, rejected-pass, rejected_fail}
+use Rattle.serial.proofs.Steps.{landed_pass, landed_fail, rejected_pass, rejected_fail}
 use Rattle.serial.proofs.landing.decide_serially.Goals as goal
 use Rattle.serial.proofs.landing.decide_serially.Goals.{then-branch+in_ok-push, else-branch+in_ok-push-2}
 
@@ -19,9 +19,9 @@ loop-c-preserved g c =
           let a : map change_of (vec_items c.if-branch.landed) ≡ L ++ change_of x ∷ [] =
           ap (λ v. map change_of (vec_items v)) w.landed-is ∙ (ap (map change_of) w.in_ok-push.ensures.items ∙ map_push change_of (vec_items c.loop-c.landed) x) in
           let e = sym w.if-branch.true ∙ (c.in_ok-passes.ensures ∙ ap (λ l. passes says (map change_of l) (change_of x)) c.as_slice.ensures.value) in (
-            sym (landed-pass xs i x c.loop-c-test.true c.c-item.is says L (map change_of (vec_items c.if-branch.landed)) e a) ∙ c.loop-c.invariant.0,
+            sym (landed_pass xs i x c.loop-c-test.true c.c-item.is says L (map change_of (vec_items c.if-branch.landed)) e a) ∙ c.loop-c.invariant.0,
             ap (λ v. map change_of (vec_items v) ++ serial_rejected says (map change_of (vec_items c.if-branch.landed)) (map change_of (drop (i + 1) xs))) w.rejected-is
-                ∙ (ap (λ l. R ++ l) (sym (rejected-pass xs i x c.loop-c-test.true c.c-item.is says L (map change_of (vec_items c.if-branch.landed)) e a)) ∙ c.loop-c.invariant.1),
+                ∙ (ap (λ l. R ++ l) (sym (rejected_pass xs i x c.loop-c-test.true c.c-item.is says L (map change_of (vec_items c.if-branch.landed)) e a)) ∙ c.loop-c.invariant.1),
           )
       | else-branch+in_ok-push-2 w ↦
           let b : map change_of (vec_items c.if-branch.rejected) ≡ R ++ change_of x ∷ [] =

@@ -4,7 +4,7 @@ use Rattle.std.proofs.lemmas.Bool.{lt-ltb, le-ltb}
 use Rattle.change.specs.Change.{fault, fault_from}
 use Rattle.change.specs.Records.{change_of}
 use Rattle.change.specs.declared.change.Change as declared
-use Rattle.change.proofs.Seen.{fault-later, fault_large, fault_again, fault_by_parts}
+use Rattle.change.proofs.Seen.{fault_later, fault_large, fault_again, fault_by_parts}
 use Rattle.change.proofs.change.Change.first_fault.Goals as goal
 
 by_parts : (c : declared.Change) → 1 ≤ c.count → fault_from [] 0 (take c.count c.parts) ≡ fault (change_of c)
@@ -24,7 +24,7 @@ returns-then-among_first c =
 
 pub loop-i-preserved : goal.loop-i-preserved
 loop-i-preserved c =
-    sym (fault-later c.args.self.parts c.args.self.count c.loop-i.i c.loop-i-test.true (omega arith) (lt-ltb _ _ c.if-part-ge-PART_LIMIT.false) (sym c.if-among_first.ensures))
+    sym (fault_later c.args.self.parts c.args.self.count c.loop-i.i c.loop-i-test.true (omega arith) (lt-ltb _ _ c.if-part-ge-PART_LIMIT.false) (sym c.if-among_first.ensures))
     ∙ c.loop-i.invariant
 
 pub returns : goal.returns

@@ -6,7 +6,7 @@ use Rattle.run.specs.Layout.{landed_at, verdicts_at}
 use Rattle.run.specs.Records.{run_in, run_of, verdict_in, verdict_width}
 use Rattle.run.specs.Run.{heard}
 use Rattle.run.specs.declared.run.Run as declared
-use Rattle.run.proofs.Heard.{heard-bad, heard_elsewhere, heard-good, heard-later, heard_none, verdict_at}
+use Rattle.run.proofs.Heard.{heard_bad, heard_elsewhere, heard-good, heard_later, heard_none, verdict_at}
 use Rattle.run.proofs.run.Run.known.Goals as goal
 
 pub loop-k-init : goal.loop-k-init
@@ -31,7 +31,7 @@ pub returns-else-good-eq1 : goal.returns-else-good-eq1
 returns-else-good-eq1 c =
     let xs : List ℕ = c.args.queue.now in
     let cs : List Change = changes_in c.args.landed (drop landed_at xs) in
-    sym (heard-bad cs xs c.args.verdicts c.loop-k.k (run_of cs c.args.self) (run_of cs c.within-stored.result) (omega (arith, c.requires.long, c.requires.held)) c.loop-k-test.true
+    sym (heard_bad cs xs c.args.verdicts c.loop-k.k (run_of cs c.args.self) (run_of cs c.within-stored.result) (omega (arith, c.requires.long, c.requires.held)) c.loop-k-test.true
     (compared cs xs c.loop-k.k c.args.self c.read_run.result c.within-stored.result c.requires.all c.if-verdict-self.false c.read_run.ensures.part (c.within-stored.ensures.value cs) (c.read_run.ensures.value cs)) (sym c.same_as.ensures ∙ c.if-same_as.true) c.if-good-eq1.false)
     ∙ c.loop-k.invariant
 
@@ -45,7 +45,7 @@ pub loop-k-preserved : goal.loop-k-preserved
 loop-k-preserved c =
     let xs : List ℕ = c.args.queue.now in
     let cs : List Change = changes_in c.args.landed (drop landed_at xs) in
-    sym (heard-later cs xs c.args.verdicts c.loop-k.k (run_of cs c.args.self) (run_of cs c.within-stored.result) (omega (arith, c.requires.long, c.requires.held)) c.loop-k-test.true
+    sym (heard_later cs xs c.args.verdicts c.loop-k.k (run_of cs c.args.self) (run_of cs c.within-stored.result) (omega (arith, c.requires.long, c.requires.held)) c.loop-k-test.true
     (compared cs xs c.loop-k.k c.args.self c.read_run.result c.within-stored.result c.requires.all c.if-verdict-self.false c.read_run.ensures.part (c.within-stored.ensures.value cs) (c.read_run.ensures.value cs)) (sym c.same_as.ensures ∙ c.if-same_as.false))
     ∙ c.loop-k.invariant
 

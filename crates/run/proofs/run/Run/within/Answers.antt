@@ -5,8 +5,8 @@ use Rattle.run.specs.Run.{Run}
 use Rattle.run.proofs.run.Run.within.Goals as goal
 
 -- of a list no more than all can be taken
-take-most : (n m : ℕ) (xs : List ℕ) → m ≡ length xs → take (min n m) xs ≡ take n xs
-take-most n m xs e = go (leb n m) refl
+take_most : (n m : ℕ) (xs : List ℕ) → m ≡ length xs → take (min n m) xs ≡ take n xs
+take_most n m xs e = go (leb n m) refl
   where
     go : (b : Bool) → leb n m ≡ b → take (min n m) xs ≡ take n xs
     go true t = ap (λ k. take k xs) (omega (arith, leb-true n m t))
@@ -21,5 +21,5 @@ returns c =
       begins = c.min.ensures;
       value = λ cs e.
           let L : List ℕ = line c.args.self.part cs in
-          ap run (ap (λ n. take n L) c.min.ensures ∙ take-most c.args.self.begins c.args.landed L e);
+          ap run (ap (λ n. take n L) c.min.ensures ∙ take_most c.args.self.begins c.args.landed L e);
     }
