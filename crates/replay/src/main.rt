@@ -83,9 +83,8 @@ fn play_file(rt: &HostRuntime, most: u64, arg: &str) -> Result<(), Failed> {
 
 // What was printed before a failure stays printed.
 fn play(rt: &HostRuntime, most: u64, bytes: &[u8]) -> Result<(), Failed> {
-    let printer = match Printer::new(rt) {
-        Ok(printer) => printer,
-        Err(e) => return Err(complain(rt, format_args!("cannot write the output: {e}"))),
+    let Ok(printer) = Printer::new(rt) else {
+        return Err(complain(rt, "no memory for the output"));
     };
     let mut f = fmt::Formatter::new(printer);
     let played = day::play(&mut f, rt.alloc(), most, bytes);

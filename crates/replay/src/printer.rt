@@ -1,5 +1,8 @@
 // Text for standard output, through a buffer.
-use std::io::{BufWriter, Stdout, Write};
+ghost use Rattle.std.specs.Prelude.{◌≡◌, IfErr};
+ghost use Rattle.std.specs.IoError.{error_kind};
+
+use std::io::{BufWriter, ErrorKind, Stdout, Write};
 use std::{fmt, io};
 
 #[derive(Drop)]
@@ -22,7 +25,10 @@ impl fmt::Write for Printer {
 }
 
 impl Printer {
-    pub fn new(rt: &HostRuntime) -> io::Result<Printer> {
+    // It fails only for want of memory for the buffer, and nothing is written then.
+    pub fn new(rt: &HostRuntime) -> io::Result<Printer>
+        ensures { IfErr result (λ e. error_kind e ≡ ErrorKind.OutOfMemory) }
+    {
         Ok(Printer {
             out: BufWriter::new(rt.alloc(), rt.stdout())?,
             error: None,
