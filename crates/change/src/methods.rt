@@ -9,6 +9,13 @@ use super::change::{Change, MOST_PARTS};
 pub const PART_LIMIT: u64 = 64;
 
 impl Change {
+    // The parts that it touches, in its order.
+    pub fn touched(&self) -> &[u64]
+        ensures { result.now ≡ (change_of self.now).parts }
+    {
+        &self.parts[..self.count as usize]
+    }
+
     // Whether the part stands among the first n.
     fn among_first(self, n: usize, part: u64) -> bool
         requires { n ≤ most_parts }

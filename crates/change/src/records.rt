@@ -43,11 +43,9 @@ pub fn write_change(row: &mut [u64], c: Change)
 }
 
 // A change that is written and read again is the same.
-pub fn change_round_trip() -> u8
+pub fn change_round_trip()
     ensures { ChangeRoundTrip }
-{
-    0
-}
+{}
 
 // Writes the change behind the first n records of a section.
 pub fn append_change(section: &mut [u64], n: usize, c: Change)
