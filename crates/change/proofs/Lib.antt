@@ -1,5 +1,5 @@
 pub mod Rows
-pub mod Changes
+pub mod ChangeLaws
 pub mod Seen
 mod Tidied
 pub mod Tables

@@ -1,10 +1,11 @@
 -- Laws of records read one after another, of numbers that are written over, and of numbers filled up with 0.
-use Rattle.std.proofs.Common.{◌≡◌, ℕ, zero, suc, ◌+◌, ◌-◌, ◌*◌, ◌<◌, ◌≤◌, List, [], ◌∷◌, ◌++◌, length, take, drop, replicate, sym, refl, ap, ◌∙◌, add-zero, suc-add, mul-zero, zero-add, mul-suc, mul-add, arith, length-append, length-drop, take-append-drop}
+use Rattle.std.proofs.Common.{◌≡◌, ℕ, zero, suc, ◌+◌, ◌-◌, ◌*◌, ◌<◌, ◌≤◌, min, List, [], ◌∷◌, ◌++◌, length, take, drop, replicate, sym, refl, ap, ◌∙◌, ⊎_elim, add-zero, suc-add, mul-zero, zero-add, mul-suc, mul-add, arith, length-append, length-drop, take-append-drop}
 use native.Mathlib.Nat.{sub-zero}
 use borrow.Rule.Slice.PartMut.{put_mid}
 use lib.ListN.{length-replicate}
-use lib.Seq.{take-append-add}
-use Rattle.std.proofs.lemmas.List.{length-take-le, append_assoc, take_at, drop_at, drop-take, drop-drop, drop-append-le, take-replicate}
+use lib.Seq.{take-append-add, take-length}
+use Rattle.std.proofs.lemmas.Bool.{cases_lt}
+use Rattle.std.proofs.lemmas.List.{length-take-le, append_assoc, append-nil, drop_all, drop-replicate, take-append-le, take_at, drop_at, drop-take, drop-drop, drop-append-le, take-replicate}
 use Rattle.change.specs.Records.{rows, row_out, written, fixed}
 
 -- so many numbers and no more
@@ -20,6 +21,23 @@ fixed_is n xs le =
 
 pub take-fixed : (n : ℕ) (xs : List ℕ) → length xs ≤ n → take (length xs) (fixed n xs) ≡ xs
 take-fixed n xs le = rw (fixed_is n xs le) (take_at xs _ _ refl)
+
+-- as many as there is room for, and what is left of the 0 that stood there
+pub fixed_over : (n : ℕ) (xs : List ℕ) → fixed n xs ≡ take (min (length xs) n) xs ++ drop (min (length xs) n) (replicate n 0)
+unfolding fixed
+fixed_over n xs = ⊎_elim many few (cases_lt n (length xs))
+  where
+    few : length xs ≤ n → take n (xs ++ replicate n 0) ≡ take (min (length xs) n) xs ++ drop (min (length xs) n) (replicate n 0)
+    few le =
+        let m : min (length xs) n ≡ length xs = omega arith in
+        let k : n ≡ length xs + (n - length xs) = omega arith in
+        let a : take n (xs ++ replicate n 0) ≡ xs ++ replicate (n - length xs) 0 = fixed_is n xs le in
+        a ∙ rw (m, take-length, drop-replicate)
+
+    many : n < length xs → take n (xs ++ replicate n 0) ≡ take (min (length xs) n) xs ++ drop (min (length xs) n) (replicate n 0)
+    many lt =
+        let m : min (length xs) n ≡ n = omega arith in
+        rw m (take-append-le n xs (replicate n 0) (omega arith) ∙ (sym (append-nil (take n xs)) ∙ ap (λ l. take n xs ++ l) (sym (drop_all n (replicate n 0) (omega (arith, length-replicate {A = ℕ} n 0))))))
 
 module _ {A : Type 0} (f : List ℕ → A) (w : ℕ) where
   -- of n rows from base on, those from the i-th on
@@ -44,6 +62,10 @@ rows_append f w zero n xs = rw (zero-add, mul-zero)
 rows_append f w (suc m) n xs =
     let d : drop (w * m) (drop w xs) ≡ drop (w * suc m) xs = drop-drop (w * m) w xs ∙ ap (λ u. drop u xs) (omega (arith, mul-suc w m)) in
     rw (suc-add) (ap (λ r. f xs ∷ r) (rows_append f w m n (drop w xs) ∙ rw d))
+
+-- some rows are all but the last, and the last
+pub rows_last : {A : Type 0} (f : List ℕ → A) (w n : ℕ) (xs : List ℕ) → 0 < n → rows f w n xs ≡ rows f w (n - 1) xs ++ f (drop (w * (n - 1)) xs) ∷ []
+rows_last f w n xs some = let e : n ≡ n - 1 + 1 = omega arith in ap (λ u. rows f w u xs) e ∙ rows_append f w (n - 1) 1 xs
 
 -- rows read by f depend on their numbers alone
 abbrev pub Local : {A : Type 0} → (List ℕ → A) → ℕ → Type 0

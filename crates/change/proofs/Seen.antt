@@ -56,13 +56,6 @@ module _ (ps : List ℕ) (i q : ℕ) (lt : i < length ps) (is : q ≡ get_or ps 
       (λ ne. get_or-set_other cs q p (get_or cs q 0 + 1) 0 (λ e. ne (sym e)) ∙ (h ∙ ap (λ u. get_or es p 0 + cond u 1 0) (sym (seen_other p ne))))
       (cases_eq q p)
 
-  pub stamp_step : (ss es : List ℕ) (stamp p : ℕ) → q < length ss → get_or ss p 0 ≡ cond (has (take i ps) p) stamp (get_or es p 0) →
-      get_or (set ss q stamp) p 0 ≡ cond (has (take (i + 1) ps) p) stamp (get_or es p 0)
-  stamp_step ss es stamp p lq h = ⊎_elim
-      (λ e. ap (λ u. get_or (set ss q stamp) u 0) (sym e) ∙ (get_or-set_same ss q stamp 0 lq ∙ ap (λ u. cond u stamp (get_or es p 0)) (sym (seen_new p e))))
-      (λ ne. get_or-set_other ss q p stamp 0 (λ e. ne (sym e)) ∙ (h ∙ ap (λ u. cond u stamp (get_or es p 0)) (sym (seen_other p ne))))
-      (cases_eq q p)
-
   -- the fault of the parts from the i-th on, where the i-th is sound, where it is not
   fault_sound : (ltb q part_limit && not (has (take i ps) q)) ≡ true → fault_from (take i ps) i (drop i ps) ≡ fault_from (take (i + 1) ps) (i + 1) (drop (i + 1) ps)
   fault_sound e =
@@ -77,26 +70,16 @@ module _ (ps : List ℕ) (i q : ℕ) (lt : i < length ps) (is : q ≡ get_or ps 
       ap (fault_from (take i ps) i) (drop_more ps i 0 lt)
       ∙ (ap (λ u. fault_from (take i ps) i (u ∷ drop (i + 1) ps)) (sym is) ∙ ap (λ b. cond b (fault_from (q ∷ take i ps) (suc i) (drop (i + 1) ps)) (Some i)) e)
 
--- the same among the first n of xs, by the two tests of the i-th part
-module _ (xs : List ℕ) (n i : ℕ) (lt : i < n) (le : n ≤ length xs) where
-  within : i < length (take n xs)
-  within = omega (arith, length-take-le n xs le)
+-- the same by the two tests of the i-th part
+module _ (ps : List ℕ) (i : ℕ) (lt : i < length ps) where
+  pub fault_later : ltb (get_or ps i 0) part_limit ≡ true → has (take i ps) (get_or ps i 0) ≡ false → fault_from (take i ps) i (drop i ps) ≡ fault_from (take (i + 1) ps) (i + 1) (drop (i + 1) ps)
+  fault_later small new = fault_sound ps i (get_or ps i 0) lt refl (and_from _ _ small (not_from_false _ new))
 
-  same : get_or xs i 0 ≡ get_or (take n xs) i 0
-  same = sym (get_or-take n xs i 0 lt)
+  pub fault_large : ltb (get_or ps i 0) part_limit ≡ false → fault_from (take i ps) i (drop i ps) ≡ Some i
+  fault_large large = fault_here ps i (get_or ps i 0) lt refl (and_left _ _ large)
 
-  before : has (take i (take n xs)) (get_or xs i 0) ≡ has (take i xs) (get_or xs i 0)
-  before = ap (λ l. has l (get_or xs i 0)) (take-take i n xs (omega arith))
-
-  pub fault_later : ltb (get_or xs i 0) part_limit ≡ true → has (take i xs) (get_or xs i 0) ≡ false →
-      fault_from (take i (take n xs)) i (drop i (take n xs)) ≡ fault_from (take (i + 1) (take n xs)) (i + 1) (drop (i + 1) (take n xs))
-  fault_later small new = fault_sound (take n xs) i (get_or xs i 0) within same (and_from _ _ small (not_from_false _ (before ∙ new)))
-
-  pub fault_large : ltb (get_or xs i 0) part_limit ≡ false → fault_from (take i (take n xs)) i (drop i (take n xs)) ≡ Some i
-  fault_large large = fault_here (take n xs) i (get_or xs i 0) within same (and_left _ _ large)
-
-  pub fault_again : has (take i xs) (get_or xs i 0) ≡ true → fault_from (take i (take n xs)) i (drop i (take n xs)) ≡ Some i
-  fault_again old = fault_here (take n xs) i (get_or xs i 0) within same (and_right _ _ (not_from_true _ (before ∙ old)))
+  pub fault_again : has (take i ps) (get_or ps i 0) ≡ true → fault_from (take i ps) i (drop i ps) ≡ Some i
+  fault_again old = fault_here ps i (get_or ps i 0) lt refl (and_right _ _ (not_from_true _ old))
 
 -- a change that has parts, and not too many, is faulty where its parts are
 pub fault_by_parts : (c : Change) → 1 ≤ length c.parts → length c.parts ≤ most_parts → fault c ≡ fault_from [] 0 c.parts

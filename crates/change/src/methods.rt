@@ -1,9 +1,10 @@
 // What a change by value can be asked.
-ghost use Rattle.std.specs.Prelude.{◌≡◌, ◌≤◌, take};
+ghost use Rattle.std.specs.Prelude.{◌≡◌};
 ghost use Rattle.change.specs.Change.{has, share, fault, most_parts};
 ghost use Rattle.change.specs.Records.{change_of, fixed};
 
 use super::change::{Change, MOST_PARTS};
+use super::records::padded;
 
 // Every part's number is below this.
 pub const PART_LIMIT: u64 = 64;
@@ -16,36 +17,18 @@ impl Change {
         &self.parts[..self.count as usize]
     }
 
-    // Whether the part stands among the first n.
-    fn among_first(self, n: usize, part: u64) -> bool
-        requires { n ≤ most_parts }
-        ensures { result ≡ has (take n self.parts) part }
-    {
-        for i in 0..n {
-            if self.parts[i] == part {
-                return true;
-            }
-        }
-        false
-    }
-
     // Whether the change touches the part.
     pub fn touches(self, part: u64) -> bool
         ensures { result ≡ has (change_of self).parts part }
     {
-        self.among_first(self.count as usize, part)
+        self.touched().contains(&part)
     }
 
     // Whether the two changes touch a part in common.
     pub fn shares(self, other: Change) -> bool
         ensures { result ≡ share (change_of self).parts (change_of other).parts }
     {
-        for i in 0..self.count as usize {
-            if other.touches(self.parts[i]) {
-                return true;
-            }
-        }
-        false
+        self.touched().iter().any(|part| other.touches(*part))
     }
 
     // Where the change is malformed: past its parts if it has none, else at the first that is too large or stood earlier.
@@ -55,12 +38,9 @@ impl Change {
         if self.count == 0 {
             return Some(MOST_PARTS as u64);
         }
-        for i in 0..self.count as usize {
-            let part = self.parts[i];
-            if part >= PART_LIMIT {
-                return Some(i as u64);
-            }
-            if self.among_first(i, part) {
+        let parts = self.touched();
+        for (i, part) in parts.iter().enumerate() {
+            if *part >= PART_LIMIT || parts[..i].contains(part) {
                 return Some(i as u64);
             }
         }
@@ -71,10 +51,6 @@ impl Change {
     pub fn padded_parts(self) -> [u64; MOST_PARTS]
         ensures { result ≡ fixed most_parts (change_of self).parts }
     {
-        let mut out = [0u64; MOST_PARTS];
-        for i in 0..self.count as usize {
-            out[i] = self.parts[i];
-        }
-        out
+        padded(self.touched())
     }
 }

@@ -1,12 +1,21 @@
 // Changes as records of the lent queue: one record, and a section of them.
 ghost use Rattle.std.specs.Prelude.{◌≡◌, ◌+◌, ◌*◌, ◌<◌, ◌≤◌, length, drop, replicate};
-ghost use Rattle.change.specs.Change.{numbered, place_of};
-ghost use Rattle.change.specs.Records.{ChangeRoundTrip, change_in, change_of, change_row, change_width, changes_in, row_out, table, written};
+ghost use Rattle.change.specs.Records.{ChangeRoundTrip, change_in, change_of, change_row, change_width, changes_in, fixed, row_out, table, written};
 
 use super::change::{Change, MOST_PARTS};
 
 // A change's record: its number, its count of parts, and room for MOST_PARTS.
 pub const CHANGE_WIDTH: usize = 10;
+
+// The numbers, as many as there is room for, and 0 behind them.
+pub fn padded<const N: usize>(numbers: &[u64]) -> [u64; N]
+    ensures { result ≡ fixed N numbers.now }
+{
+    let mut all = [0; N];
+    let n = numbers.len().min(N);
+    all[..n].copy_from_slice(&numbers[..n]);
+    all
+}
 
 // The change that a record says.
 pub fn read_change(row: &[u64]) -> Change
@@ -80,24 +89,13 @@ pub fn remove_change(section: &mut [u64], n: usize, i: usize)
     remove_record(section, CHANGE_WIDTH, n, i);
 }
 
-// Leaves 0 everywhere.
-fn clear(section: &mut [u64])
-    ensures { section.new ≡ replicate (length section.old) 0 }
-{
-    section.fill(0);
-}
-
 // Writes a record as it reads: no more parts than it has room for, and 0 in those that it does not use.
 fn tidy_change(row: &mut [u64])
     requires { length row.old ≡ change_width }
     ensures { row.new ≡ change_row (change_in row.old) }
 {
-    let count = row[1].min(MOST_PARTS as u64);
-    row[1] = count;
-    for j in 0..MOST_PARTS {
-        // Written in any case, so that no branch is taken.
-        row[2 + j] = if (j as u64) < count { row[2 + j] } else { 0 };
-    }
+    let c = read_change(row);
+    write_change(row, c);
 }
 
 // Writes the first n changes of a section as they read, and 0 behind them.
@@ -108,27 +106,5 @@ pub fn tidy_changes(section: &mut [u64], n: usize)
     for i in 0..n {
         tidy_change(&mut section[CHANGE_WIDTH * i..CHANGE_WIDTH * i + CHANGE_WIDTH]);
     }
-    let end = section.len();
-    clear(&mut section[CHANGE_WIDTH * n..end]);
-}
-
-// The place of the first of the n changes from `base` on that has the number.
-pub fn find_number(queue: &[u64], base: usize, n: usize, number: u64) -> Option<usize>
-    requires { base + change_width * n ≤ length queue.now }
-    ensures { result ≡ place_of number (changes_in n (drop base queue.now)) }
-{
-    for i in 0..n {
-        if queue[base + CHANGE_WIDTH * i] == number {
-            return Some(i);
-        }
-    }
-    None
-}
-
-// Whether one of the n changes from `base` on has the number.
-pub fn number_used(queue: &[u64], base: usize, n: usize, number: u64) -> bool
-    requires { base + change_width * n ≤ length queue.now }
-    ensures { result ≡ numbered number (changes_in n (drop base queue.now)) }
-{
-    find_number(queue, base, n, number).is_some()
+    section[CHANGE_WIDTH * n..].fill(0);
 }

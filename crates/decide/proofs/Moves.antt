@@ -3,7 +3,7 @@ use Rattle.std.proofs.Common.{◌≡◌, ℕ, zero, suc, ◌+◌, ◌*◌, ◌<�
 use Rattle.std.specs.List.{AllByRecursion}
 use Rattle.change.specs.Change.{Change, has, line, part_limit, without}
 use Rattle.change.specs.Records.{change_row, change_width, written, row_out, Tallies}
-use Rattle.change.proofs.Changes.{length-change_row, line-append}
+use Rattle.change.proofs.ChangeLaws.{length-change_row, line-append}
 use Rattle.change.proofs.Tables.{table_push, table_out}
 use Rattle.run.specs.Numbers.{changes_section}
 

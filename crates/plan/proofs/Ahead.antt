@@ -5,7 +5,7 @@ use Rattle.std.proofs.lemmas.Bool.{cases_Bool, false≢true}
 use Rattle.change.specs.Change.{Change, has, line}
 use Rattle.change.specs.Records.{change_in, changes_in, change_width}
 use Rattle.change.proofs.Rows.{rows_append}
-use Rattle.change.proofs.Changes.{line-append}
+use Rattle.change.proofs.ChangeLaws.{line-append}
 use Rattle.run.specs.Limits.{most_following}
 use Rattle.run.specs.Run.{Run, same_list, same_run, run_on}
 use Rattle.run.specs.Records.{run_in, run_row, Ahead}

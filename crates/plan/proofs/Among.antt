@@ -5,7 +5,7 @@ use Rattle.std.proofs.lemmas.Bool.{eq-eqb, ne_eqb, cases_Bool, cases_eq, cases_l
 use Rattle.change.specs.Change.{Change, has, line}
 use Rattle.change.specs.Records.{change_in, change_width, rows}
 use Rattle.change.proofs.Rows.{rows_append, length-rows}
-use Rattle.change.proofs.Changes.{line-append, length-line_le}
+use Rattle.change.proofs.ChangeLaws.{line-append, length-line_le}
 use Rattle.change.proofs.Tables.{get_d_rows}
 use Rattle.run.specs.Limits.{most_following}
 use Rattle.run.specs.Run.{Run, same_run, run_on, runs_on}

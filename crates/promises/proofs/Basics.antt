@@ -3,7 +3,7 @@ use Rattle.std.proofs.Common.{◌≡◌, ℕ, suc, Bool, true, false, cond, ◌&
 use mathlib.Core.Bool.{or-true, or-false, or_assoc, or_comm}
 use Rattle.std.proofs.lemmas.Bool.{eqb-true, eq-eqb}
 use Rattle.std.specs.List.{AllByRecursion}
-use Rattle.change.proofs.Changes.{line-append}
+use Rattle.change.proofs.ChangeLaws.{line-append}
 use Rattle.change.specs.Change.{Change, has, share, line, numbered}
 use Rattle.plan.specs.Plan.{kept}
 

@@ -8,7 +8,7 @@ use Rattle.queue.specs.declared.reply.Refusal.{Refusal}
 use Rattle.queue.specs.declared.reply.Refusal.TheVariants.{Malformed}
 use Rattle.run.proofs.Round.{decode_encode, sized_of}
 use Rattle.run.proofs.Sections.{Sized, sections-whole}
-use Rattle.change.proofs.Changes.{length-change_row}
+use Rattle.change.proofs.ChangeLaws.{length-change_row}
 use Rattle.run.proofs.Rows.{length-run_row, length-verdict_row}
 use Rattle.change.specs.Change.{most_parts, Change, line}
 use Rattle.change.specs.Records.{change_width, change_row, table}

@@ -3,7 +3,7 @@ use Rattle.std.proofs.Common.{◌≡◌, ℕ, Bool, true, false, cond, ◌||◌,
 use mathlib.Core.Bool.{or-true, or_assoc}
 use Rattle.std.proofs.lemmas.Bool.{eqb-true, eqb-false, eq-eqb, ne_eqb, or_from}
 use Rattle.std.specs.List.{AllByRecursion}
-use Rattle.change.proofs.Changes.{line-append}
+use Rattle.change.proofs.ChangeLaws.{line-append}
 use Rattle.change.specs.Change.{Change, has, line, numbered, dropped}
 use Rattle.serial.specs.Serial.{Bench, passes, serial_landed, serial_rejected}
 use Rattle.promises.specs.Day.{not_waiting}

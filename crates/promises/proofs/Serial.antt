@@ -1,7 +1,7 @@
 -- Whether a change passes rests on the lines of its own parts and on nothing else. Assumes nothing.
 use Rattle.std.proofs.Common.{◌≡◌, ℕ, Bool, true, false, cond, ◌&&◌, List, [], ◌∷◌, ◌++◌, sym, refl, ap, ◌∙◌, ap₂}
 use Rattle.std.specs.List.{AllByRecursion}
-use Rattle.change.proofs.Changes.{line-append}
+use Rattle.change.proofs.ChangeLaws.{line-append}
 use Rattle.change.specs.Change.{Change, has, line}
 use Rattle.serial.specs.Serial.{Bench, passes_on, passes}
 use Rattle.promises.proofs.Basics.{Off, line_off, has_head, has_tail}

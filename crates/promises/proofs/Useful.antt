@@ -3,7 +3,7 @@ use Rattle.std.proofs.Common.{◌≡◌, ℕ, zero, suc, ◌+◌, ◌*◌, ◌<�
 use mathlib.Core.Bool.{or-true}
 use Rattle.std.proofs.lemmas.Bool.{eqb-true, eq-eqb, not-true, leb-true, or_cases}
 use Rattle.std.specs.List.{AllByRecursion}
-use Rattle.change.proofs.Changes.{line-append, length-line_le}
+use Rattle.change.proofs.ChangeLaws.{line-append, length-line_le}
 use Rattle.run.proofs.Compared.{same_run_true}
 use Rattle.change.specs.Change.{part_limit, most_parts, Change, has, line, numbered, fault_from, fault}
 use Rattle.run.specs.Run.{Run, same_run, run_on, runs_on}

@@ -4,7 +4,7 @@ use Rattle.std.proofs.lemmas.List.{get_or-drop}
 use Rattle.std.proofs.lemmas.Bool.{leb-true}
 use Rattle.change.specs.Change.{Change, line, numbered, place_of}
 use Rattle.change.specs.Records.{changes_in}
-use Rattle.change.proofs.Changes.{place_numbered}
+use Rattle.change.proofs.ChangeLaws.{place_numbered}
 use Rattle.run.specs.Numbers.{Begins, landed_in, waiting_in, rejected_in}
 use Rattle.queue.specs.Refusals.{over, overlong, unless, number_check, waits_check}
 use Rattle.queue.specs.declared.reply.Refusal.TheVariants.{NumberUsed, NotWaiting}

@@ -6,7 +6,7 @@ use Rattle.std.proofs.lemmas.List.{drop-drop, take-append-le}
 use Rattle.change.specs.Change.{Change, line}
 use Rattle.change.specs.Records.{change_in, change_row, change_width, changes_in}
 use Rattle.change.proofs.Rows.{length-rows, rows_same}
-use Rattle.change.proofs.Changes.{length-change_row, line-append}
+use Rattle.change.proofs.ChangeLaws.{length-change_row, line-append}
 use Rattle.change.proofs.Tables.{length-table}
 use Rattle.run.specs.Records.{run_in, verdict_in, verdicts_in, run_width, verdict_width, runs_in}
 use Rattle.run.specs.Limits.{most_following}

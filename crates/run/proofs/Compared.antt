@@ -6,7 +6,7 @@ use Rattle.std.proofs.lemmas.Bool.{eq-eqb, eqb-true, and_parts, and_right, and_l
 use Rattle.change.specs.Change.{Change, line}
 use Rattle.change.specs.Records.{change_in, changes_in, change_width}
 use Rattle.change.proofs.Rows.{rest, rows_append}
-use Rattle.change.proofs.Changes.{line-append}
+use Rattle.change.proofs.ChangeLaws.{line-append}
 use Rattle.run.specs.Run.{Run, same_list, same_run}
 use Rattle.run.specs.Records.{run_of}
 use Rattle.run.specs.declared.run.Run as declared

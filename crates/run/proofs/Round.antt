@@ -6,7 +6,7 @@ use Rattle.std.proofs.lemmas.List.FromFn.{fill_by_all}
 use Rattle.change.specs.Change.{Change}
 use Rattle.change.specs.Records.{rows, table, change_in, change_row, change_width}
 use Rattle.change.proofs.Rows.{Local, rows_append, rows_take, length-rows}
-use Rattle.change.proofs.Changes.{length-change_row, read_row, change_in_local}
+use Rattle.change.proofs.ChangeLaws.{length-change_row, read_row, change_in_local}
 use Rattle.change.proofs.Tables.{joined_push, table_is, length-table, rows-table}
 use Rattle.run.specs.Records.{run_in, runs_in, run_row, run_width, verdict_in, verdicts_in, verdict_row, verdict_width, Ahead, AheadVerdict}
 use Rattle.run.proofs.Rows.{length-run_row, length-verdict_row, read_run_row, read_verdict_row, run_in-local, verdict_in-local}

@@ -1,6 +1,6 @@
 use Rattle.std.proofs.Common.{◌+◌, ◌*◌, arith}
 use Rattle.change.specs.Records.{change_row, change_of}
-use Rattle.change.proofs.Changes.{length-change_row}
+use Rattle.change.proofs.ChangeLaws.{length-change_row}
 use Rattle.change.proofs.Rows.{put_written}
 use Rattle.change.proofs.records.append_change.Goals as goal
 

@@ -1,5 +1,5 @@
 use Rattle.std.proofs.Common.{◌∙◌}
-use Rattle.change.proofs.Changes.{change_in_part}
+use Rattle.change.proofs.ChangeLaws.{change_in_part}
 use Rattle.change.proofs.records.change_at.Goals as goal
 
 pub returns : goal.returns

@@ -1,4 +1,4 @@
-use Rattle.change.proofs.Changes.{read_row}
+use Rattle.change.proofs.ChangeLaws.{read_row}
 use Rattle.change.proofs.records.change_round_trip.Goals as goal
 
 pub returns : goal.returns

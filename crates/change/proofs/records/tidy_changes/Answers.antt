@@ -2,7 +2,7 @@ use Rattle.std.proofs.Common.{◌≡◌, ℕ, ◌+◌, ◌-◌, ◌*◌, List, l
 use Rattle.std.proofs.lemmas.List.{length-take-le, length-drop}
 use Rattle.change.specs.Records.{change_in, change_row, change_width}
 use Rattle.change.proofs.Rows.{put_written}
-use Rattle.change.proofs.Changes.{change_in_part, length-change_row}
+use Rattle.change.proofs.ChangeLaws.{change_in_part, length-change_row}
 use Rattle.change.proofs.Tables.{anew_more, anew_all}
 use Rattle.change.proofs.records.tidy_changes.Goals as goal
 
@@ -23,5 +23,5 @@ returns c =
     let inv = rw k at c.loop-i.invariant.0 in
     let l : length (take (length c.loop-i.section - 10 * c.args.n) (drop (10 * c.args.n) c.loop-i.section)) ≡ length c.loop-i.section - 10 * c.args.n =
     length-take-le _ _ (omega (arith, length-drop (10 * c.args.n) c.loop-i.section)) in
-    anew_all change_in change_row 10 length-change_row c.args.section.now c.args.n (length c.loop-i.section - 10 * c.args.n) c.loop-i.section c.clear.new.section c.requires (omega arith) (omega arith) inv
-    (c.clear.ensures ∙ ap (λ u. replicate u 0) l)
+    anew_all change_in change_row 10 length-change_row c.args.section.now c.args.n (length c.loop-i.section - 10 * c.args.n) c.loop-i.section c.fill.new.self c.requires (omega arith) (omega arith) inv
+    (c.fill.ensures.after (λ y e. e) ∙ ap (λ u. replicate u 0) l)

@@ -1,6 +1,6 @@
 use Rattle.std.proofs.Common.{◌≡◌, length, take, arith}
 use Rattle.std.proofs.lemmas.List.{length-take-le}
-use Rattle.change.proofs.Changes.{row_written}
+use Rattle.change.proofs.ChangeLaws.{row_written}
 use Rattle.change.proofs.records.write_change.Goals as goal
 
 pub returns : goal.returns

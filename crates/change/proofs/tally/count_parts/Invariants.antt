@@ -4,7 +4,5 @@ use Rattle.change.proofs.tally.count_parts.Given as goal
 
 abbrev pub invariant-loop-i : goal.invariant-loop-i
 invariant-loop-i l =
-    ((p : ℕ) → p < 64 → get_or l.counts p 0 ≡ get_or l.initial.counts p 0 + cond (has (take l.i l.c.parts) p) 1 0)
-    × ((p : ℕ) → p < 64 → get_or l.stamps p 0 ≡ cond (has (take l.i l.c.parts) p) l.stamp (get_or l.initial.stamps p 0))
+    ((p : ℕ) → p < 64 → get_or l.counts p 0 ≡ get_or l.initial.counts p 0 + cond (has (take l.i l.parts) p) 1 0)
     × (length l.counts ≡ 64)
-    × (length l.stamps ≡ 64)

@@ -1,7 +1,7 @@
 use Rattle.std.proofs.Common.{◌≡◌, ℕ, ◌-◌, ◌<◌, ◌≤◌, false, List, length, get_or, take, drop, sym, refl, ap, ◌∙◌, subst, arith}
 use Rattle.change.specs.Change.{Change, line}
 use Rattle.change.specs.Records.{Tallies, change_in, change_of, change_width, changes_in}
-use Rattle.change.proofs.Changes.{length-line_le}
+use Rattle.change.proofs.ChangeLaws.{length-line_le}
 use Rattle.change.proofs.Rows.{rest_none}
 use Rattle.run.specs.Layout.{verdicts_at, verdicts_count, waiting_at, waiting_count}
 use Rattle.run.specs.Numbers.{Settled, landed_in, waiting_in}

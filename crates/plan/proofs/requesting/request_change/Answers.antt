@@ -3,7 +3,7 @@ use Rattle.std.proofs.lemmas.List.{get_or-take, length-take-le, at_drop_all}
 use Rattle.change.specs.Change.{Change, line}
 use Rattle.change.specs.Records.{change_in, change_of, change_width}
 use Rattle.change.proofs.Rows.{length-rows}
-use Rattle.change.proofs.Changes.{length-line_le}
+use Rattle.change.proofs.ChangeLaws.{length-line_le}
 use Rattle.change.proofs.Tables.{length-table}
 use Rattle.run.specs.Run.{Run, Verdict, run_on, runs_on}
 use Rattle.run.specs.Records.{row_of, run_row, verdict_row, run_width, verdict_width, runs_in, verdicts_in, Ahead}

@@ -4,7 +4,7 @@ use Rattle.std.proofs.lemmas.List.{append-nil}
 use Rattle.change.specs.Change.{Change, line}
 use Rattle.change.specs.Records.{change_in, change_of, change_width}
 use Rattle.change.proofs.Rows.{length-rows}
-use Rattle.change.proofs.Changes.{number_at}
+use Rattle.change.proofs.ChangeLaws.{number_at}
 use Rattle.run.specs.Run.{Run, runs_on, same_run}
 use Rattle.run.specs.Records.{run_of, run_row}
 use Rattle.run.specs.Layout.{depth_at, waiting_count, waiting_at}

@@ -3,6 +3,4 @@ use Rattle.change.specs.Change.{fault_from}
 use Rattle.change.proofs.change.Change.first_fault.Given as goal
 
 abbrev pub invariant-loop-i : goal.invariant-loop-i
-invariant-loop-i l =
-    fault_from (take l.i (take l.self.count l.self.parts)) l.i (drop l.i (take l.self.count l.self.parts))
-    ≡ fault_from [] 0 (take l.self.count l.self.parts)
+invariant-loop-i l = fault_from (take l.i l.parts) l.i (drop l.i l.parts) ≡ fault_from [] 0 l.parts

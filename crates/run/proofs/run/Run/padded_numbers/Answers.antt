@@ -1,6 +1,6 @@
 use Rattle.std.proofs.Common.{◌≡◌, length, take, arith}
 use Rattle.std.proofs.lemmas.List.{length-take-le}
-use Rattle.change.proofs.Changes.{pad_more}
+use Rattle.change.proofs.ChangeLaws.{pad_more}
 use Rattle.change.proofs.Rows.{fixed_is}
 use Rattle.run.proofs.run.Run.padded_numbers.Goals as goal
 

@@ -3,7 +3,7 @@ use Rattle.std.proofs.lemmas.List.{drop_all, length-take}
 use Rattle.change.specs.Change.{Change, line, has}
 use Rattle.change.specs.Records.{change_of, change_in, change_width, changes_in}
 use Rattle.change.proofs.Rows.{rest, rest_all}
-use Rattle.change.proofs.Changes.{line_yes, line_no}
+use Rattle.change.proofs.ChangeLaws.{line_yes, line_no}
 use Rattle.run.specs.Layout.{landed_at}
 use Rattle.run.proofs.Compared.{line_split, ends_true, ends_false, ends_more}
 use Rattle.run.proofs.run.Run.repeats_last.Goals as goal

@@ -2,7 +2,7 @@ use Rattle.std.proofs.Common.{◌≡◌, ◌≤◌, List, length, drop, sym, ap,
 use Rattle.change.specs.Change.{Change, line}
 use Rattle.change.specs.Records.{change_in, change_width, changes_in}
 use Rattle.change.proofs.Rows.{length-rows}
-use Rattle.change.proofs.Changes.{length-line_le}
+use Rattle.change.proofs.ChangeLaws.{length-line_le}
 use Rattle.run.specs.Layout.{landed_at}
 use Rattle.run.specs.Records.{run_of}
 use Rattle.run.specs.declared.run.Run as declared

@@ -1,9 +1,11 @@
 -- Laws of changes, of the records that hold them, and of searches and counts through a section.
 use Rattle.std.proofs.Common.{◌≡◌, ℕ, suc, ◌+◌, ◌-◌, ◌*◌, ◌<◌, ◌≤◌, min, Bool, true, false, cond, ◌||◌, eqb, List, [], ◌∷◌, ◌++◌, length, get_or, take, drop, set, replicate, is_some, Some, None, Option, sym, refl, ap, ◌∙◌, ⊎_elim, add-zero, arith, length-take}
 use borrow.Rule.Slice.PartMut.{put_mid}
+use Rattle.std.specs.List.{list_any, position, position_from, filter}
 use Rattle.std.specs.Option.{option_map}
 use lib.Seq.{append_snoc}
 use Rattle.std.proofs.lemmas.List.{at_drop_more, at_drop_all, get_or-take, length-take-le, set_at, take_more, append-nil, drop_all, get_or-drop, drop-take, take-take, take-append-le}
+use Rattle.std.proofs.lemmas.Iterator.Adapters.{position_from-zero}
 use Rattle.std.proofs.lemmas.Bool.{cond_both, cases_Bool, eq-eqb, ne_eqb}
 use Rattle.change.specs.Change.{Change, has, share, line, numbered, place_of}
 use Rattle.change.specs.Records.{change_in, change_row, changes_in, change_width, fixed}
@@ -90,6 +92,10 @@ shifted : (i : ℕ) (r : Option ℕ) → option_map (λ k. i + k) (option_map su
 shifted i None = refl
 shifted i (Some k) = ap Some (omega arith)
 
+unmoved : (r : Option ℕ) → option_map (λ k. 0 + k) r ≡ r
+unmoved None = refl
+unmoved (Some k) = ap Some (omega arith)
+
 pub place_here : (xs : List ℕ) (base n i p : ℕ) → i < n → get_or xs (base + change_width * i) 0 ≡ p → place_rest p xs base n i ≡ Some i
 place_here xs base n i p lt e =
     ap (λ l. option_map (λ k. i + k) (place_of p l)) (rest_more change_in change_width xs base n i lt)
@@ -104,10 +110,6 @@ place_later xs base n i p lt ne =
 
 pub place_first : (xs : List ℕ) (base n p : ℕ) → place_rest p xs base n 0 ≡ place_of p (changes_in n (drop base xs))
 place_first xs base n p = ap (λ l. option_map (λ k. 0 + k) (place_of p l)) (rest_none change_in change_width xs base n) ∙ unmoved (place_of p (changes_in n (drop base xs)))
-  where
-    unmoved : (r : Option ℕ) → option_map (λ k. 0 + k) r ≡ r
-    unmoved None = refl
-    unmoved (Some k) = ap Some (omega arith)
 
 -- a number has a place where it is used, and nowhere else
 pub place_numbered : (p : ℕ) (cs : List Change) → is_some (place_of p cs) ≡ numbered p cs
@@ -154,3 +156,45 @@ pub line-append : (p : ℕ) (cs ds : List Change) → line p (cs ++ ds) ≡ line
 line-append p [] ds = refl
 line-append p (c ∷ cs) ds =
     ⊎_elim (λ e. rw e (ap (λ l. c.number ∷ l) (line-append p cs ds))) (λ e. rw e (line-append p cs ds)) (cases_Bool (has c.parts p))
+
+-- the library's searches and counts are those of the definitions
+pub any-numbered : (n : ℕ) (cs : List Change) → list_any (λ c. eqb c.number n) cs ≡ numbered n cs
+any-numbered n [] = refl
+any-numbered n (c ∷ cs) = ap (λ b. eqb c.number n || b) (any-numbered n cs)
+
+position_from-place_of : (n i : ℕ) (cs : List Change) → position_from (λ c. eqb c.number n) i cs ≡ option_map (λ k. i + k) (place_of n cs)
+position_from-place_of n i [] = refl
+position_from-place_of n i (c ∷ cs) = go (position_from-place_of n (i + 1) cs) (eqb c.number n)
+  where
+    go : position_from (λ x. eqb x.number n) (i + 1) cs ≡ option_map (λ k. i + 1 + k) (place_of n cs) → (b : Bool) →
+        cond b (Some i) (position_from (λ x. eqb x.number n) (i + 1) cs) ≡ option_map (λ k. i + k) (cond b (Some 0) (option_map suc (place_of n cs)))
+    go e true = ap Some (sym (add-zero i))
+    go e false = e ∙ sym (shifted i (place_of n cs))
+
+pub position-place_of : (n : ℕ) (cs : List Change) → position (λ c. eqb c.number n) cs ≡ place_of n cs
+position-place_of n cs = position_from-zero (λ c. eqb c.number n) cs ∙ (position_from-place_of n 0 cs ∙ unmoved (place_of n cs))
+
+pub filter-line : (p : ℕ) (cs : List Change) → length (filter (λ c. has c.parts p) cs) ≡ length (line p cs)
+filter-line p [] = refl
+filter-line p (c ∷ cs) = go (has c.parts p) (filter-line p cs)
+  where
+    go : (b : Bool) → length (filter (λ x. has x.parts p) cs) ≡ length (line p cs) →
+        length (cond b (c ∷ filter (λ x. has x.parts p) cs) (filter (λ x. has x.parts p) cs)) ≡ length (cond b (c.number ∷ line p cs) (line p cs))
+    go true e = ap suc e
+    go false e = e
+
+pub any-has : (xs : List ℕ) (n : ℕ) → list_any (λ m. eqb m n) xs ≡ has xs n
+any-has [] n = refl
+any-has (x ∷ xs) n = ap (λ b. eqb x n || b) (any-has xs n)
+
+pub any-share : (ps qs : List ℕ) → list_any (λ p. has qs p) ps ≡ share ps qs
+any-share [] qs = refl
+any-share (p ∷ ps) qs = ap (λ b. has qs p || b) (any-share ps qs)
+
+-- one change more in front
+pub line_more : (p : ℕ) (c : Change) (cs : List Change) → length (line p (c ∷ cs)) ≡ cond (has c.parts p) 1 0 + length (line p cs)
+line_more p c cs = go (has c.parts p)
+  where
+    go : (b : Bool) → length (cond b (c.number ∷ line p cs) (line p cs)) ≡ cond b 1 0 + length (line p cs)
+    go true = omega arith
+    go false = omega arith
