@@ -103,6 +103,7 @@ pub fn tidy_changes(section: &mut [u64], n: usize)
     requires { change_width * n ≤ length section.old }
     ensures { section.new ≡ table change_row (length section.old) (changes_in n section.old) }
 {
+    // By index: once a loop over `chunks_exact_mut` is over, a proof knows no more of the slice than its length.
     for i in 0..n {
         tidy_change(&mut section[CHANGE_WIDTH * i..CHANGE_WIDTH * i + CHANGE_WIDTH]);
     }
