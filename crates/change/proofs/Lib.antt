@@ -3,3 +3,4 @@ pub mod ChangeLaws
 pub mod Seen
 mod Tidied
 pub mod Tables
+pub mod Chunks

@@ -1,10 +1,9 @@
 -- Laws of records read one after another, of numbers that are written over, and of numbers filled up with 0.
-use Rattle.std.proofs.Common.{◌≡◌, ℕ, zero, suc, ◌+◌, ◌-◌, ◌*◌, ◌/◌, ◌<◌, ◌≤◌, min, List, [], ◌∷◌, ◌++◌, length, take, drop, replicate, sym, refl, ap, ◌∙◌, ⊎_elim, add-zero, suc-add, mul-zero, zero-add, mul-suc, mul-add, arith, length-append, length-drop, take-append-drop}
+use Rattle.std.proofs.Common.{◌≡◌, ℕ, zero, suc, ◌+◌, ◌-◌, ◌*◌, ◌<◌, ◌≤◌, min, List, [], ◌∷◌, ◌++◌, length, take, drop, replicate, sym, refl, ap, ◌∙◌, ⊎_elim, add-zero, suc-add, mul-zero, zero-add, mul-suc, mul-add, arith, length-append, length-drop, take-append-drop}
 use native.Mathlib.Nat.{sub-zero}
 use borrow.Rule.Slice.PartMut.{put_mid}
 use lib.ListN.{length-replicate}
 use lib.Seq.{take-append-add, take-length}
-use Rattle.std.proofs.Math.Nat.{add-div_left, div-eq_of_lt, mul-div_cancel_left}
 use Rattle.std.proofs.lemmas.Bool.{cases_lt}
 use Rattle.std.proofs.lemmas.List.{length-take-le, append_assoc, append-nil, drop_all, drop-replicate, take-append-le, take_at, drop_at, drop-take, drop-drop, drop-append-le, take-replicate}
 use Rattle.change.specs.Records.{rows, row_out, written, fixed}
@@ -204,20 +203,3 @@ length-row_out w n i xs lt le =
     let Z : List ℕ = replicate w 0 ++ drop (w * n) xs in
     length-append (take (w * i) xs) (B ++ Z)
     ∙ omega (arith, length-take-le (w * i) xs (omega arith), length-append B Z, length-take-le (w * m) (drop (w * (i + 1)) xs) (omega (arith, length-drop (w * (i + 1)) xs)), length-append (replicate w 0) (drop (w * n) xs), length-replicate {A = ℕ} w 0, length-drop (w * n) xs)
-
--- the rows of width w that are left in some numbers, and what a chunk more in front says
-abbrev pub chunked : {A : Type 0} → (List ℕ → A) → ℕ → List ℕ → List A
-chunked f w xs = rows f w (length xs / w) xs
-
-pub chunked_more : {A : Type 0} (f : List ℕ → A) (w : ℕ) → Local f w → 0 < w → (xs row ys : List ℕ) → xs ≡ row ++ ys → length row ≡ w → chunked f w xs ≡ f row ∷ chunked f w ys
-chunked_more f w loc some xs row ys e l =
-    let m : length (row ++ ys) / w ≡ suc (length ys / w) = ap (λ k. k / w) (length-append row ys ∙ ap (λ k. k + length ys) l) ∙ (add-div_left (length ys) some ∙ omega arith) in
-    let d : drop w (row ++ ys) ≡ ys = drop_at row ys w l in
-    ap (chunked f w) e ∙ (ap (λ k. rows f w k (row ++ ys)) m ∙ rw (d, loc row ys (omega arith)))
-
-pub chunked_none : {A : Type 0} (f : List ℕ → A) (w : ℕ) (xs : List ℕ) → length xs < w → chunked f w xs ≡ []
-chunked_none f w xs lt = ap (λ k. rows f w k xs) (div-eq_of_lt lt)
-
-pub chunked_whole : {A : Type 0} (f : List ℕ → A) (w n : ℕ) → Local f w → 0 < w → (xs : List ℕ) → w * n ≤ length xs → chunked f w (take (w * n) xs) ≡ rows f w n xs
-chunked_whole f w n loc some xs le =
-    ap (λ k. rows f w (k / w) (take (w * n) xs)) (length-take-le (w * n) xs le) ∙ (ap (λ k. rows f w k (take (w * n) xs)) (mul-div_cancel_left n some) ∙ rows_take f w loc n (w * n) xs (omega arith) le)

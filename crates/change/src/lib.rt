@@ -11,7 +11,7 @@ pub use change::{Change, MOST_PARTS};
 pub use changes::Changes;
 pub use methods::PART_LIMIT;
 pub use records::{
-    CHANGE_WIDTH, append_change, change_at, change_round_trip, padded, read_change, remove_change,
-    remove_record, tidy_changes, write_change,
+    CHANGE_WIDTH, append_change, change_at, change_round_trip, padded, read_change, records_at,
+    remove_change, remove_record, tidy_changes, write_change,
 };
 pub use tally::{PARTS, count_parts};

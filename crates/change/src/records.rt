@@ -1,8 +1,10 @@
 // Changes as records of the lent queue: one record, and a section of them.
-ghost use Rattle.std.specs.Prelude.{◌≡◌, ◌+◌, ◌*◌, ◌<◌, ◌≤◌, length, drop, replicate};
+ghost use Rattle.std.specs.Prelude.{◌≡◌, ◌+◌, ◌*◌, ◌<◌, ◌≤◌, length, take, drop};
+ghost use Rattle.std.specs.Slice.Iter.{chunks_exact_rest, chunks_exact_size};
 ghost use Rattle.change.specs.Records.{ChangeRoundTrip, change_in, change_of, change_row, change_width, changes_in, fixed, row_out, table, written};
 
 use super::change::{Change, MOST_PARTS};
+use std::slice::ChunksExact;
 
 // A change's record: its number, its count of parts, and room for MOST_PARTS.
 pub const CHANGE_WIDTH: usize = 10;
@@ -15,6 +17,16 @@ pub fn padded<const N: usize>(numbers: &[u64]) -> [u64; N]
     let n = numbers.len().min(N);
     all[..n].copy_from_slice(&numbers[..n]);
     all
+}
+
+// The n records of this width from `base` on, one after another.
+pub fn records_at(queue: &[u64], base: usize, width: usize, n: usize) -> ChunksExact<'_, u64>
+    requires within { base + width * n ≤ length queue.now }
+    requires wide { 0 < width }
+    ensures rest { chunks_exact_rest result ≡ take (width * n) (drop base queue.now) }
+    ensures size { chunks_exact_size result ≡ width }
+{
+    queue[base..base + width * n].chunks_exact(width)
 }
 
 // The change that a record says.

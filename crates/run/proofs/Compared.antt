@@ -1,11 +1,10 @@
 -- Laws of comparing runs: lists by their numbers, a line by its end, and a run that is written short with one that begins with all of its line.
-use Rattle.std.proofs.Common.{◌≡◌, ℕ, ◌+◌, ◌-◌, ◌*◌, ◌≤◌, Bool, true, false, eqb, List, [], ◌∷◌, ◌++◌, length, get_or, take, drop, sym, refl, ap, ◌∙◌, ⊎_elim, arith, length-append, length-drop, take-append-drop}
+use Rattle.std.proofs.Common.{◌≡◌, ℕ, ◌+◌, ◌-◌, ◌*◌, ◌≤◌, Bool, true, false, cond, ◌&&◌, eqb, List, [], ◌∷◌, ◌++◌, length, get_or, take, drop, sym, refl, ap, ◌∙◌, ⊎_elim, arith, length-append, length-drop, take-append-drop}
+use lib.Pointwise.{pointwise}
 use lib.Seq.{take-length}
-use Rattle.std.proofs.lemmas.List.{length-take-le, append_assoc, append_cancel_left, take_at, drop_at, get_or-drop, get_or-take, drop_more, drop-drop, drop-take, take-take}
+use Rattle.std.proofs.lemmas.List.{length-take-le, append-nil, append_assoc, append_cancel_left, take_at, drop_at, get_or-drop, get_or-take, drop_more, drop-drop, drop-take, take-take}
 use Rattle.std.proofs.lemmas.Bool.{eq-eqb, eqb-true, and_parts, and_right, and_left, and_from, ne_eqb, cases_Bool, false≢true}
-use Rattle.change.specs.Change.{Change, line}
-use Rattle.change.specs.Records.{change_in, changes_in, change_width}
-use Rattle.change.proofs.Rows.{rest, rows_append}
+use Rattle.change.specs.Change.{Change, has, line}
 use Rattle.change.proofs.ChangeLaws.{line-append}
 use Rattle.run.specs.Run.{Run, same_list, same_run}
 use Rattle.run.specs.Records.{run_of}
@@ -28,6 +27,13 @@ same_list_true (x ∷ xs) (y ∷ ys) e =
 
 pub same_list_not : (xs ys : List ℕ) → (xs ≡ ys → ⊥) → same_list xs ys ≡ false
 same_list_not xs ys no_way = ⊎_elim (λ e. absurd (no_way (same_list_true xs ys e))) (λ e. e) (cases_Bool (same_list xs ys))
+
+-- it is the test that `==` of slices makes
+pub pointwise-same_list : (xs ys : List ℕ) → pointwise eqb xs ys ≡ same_list xs ys
+pointwise-same_list [] [] = refl
+pointwise-same_list [] (y ∷ ys) = refl
+pointwise-same_list (x ∷ xs) [] = refl
+pointwise-same_list (x ∷ xs) (y ∷ ys) = ap (λ b. eqb x y && b) (pointwise-same_list xs ys)
 
 -- the test for the same run
 pub same_run_true : (a b : Run) → same_run a b ≡ true → a ≡ b
@@ -57,12 +63,13 @@ other_part a b differ = sym (and_left (eqb a.part b.part) (same_list a.changes b
 pub other_changes : (a b : Run) → (a.changes ≡ b.changes → ⊥) → false ≡ same_run a b
 other_changes a b differ = sym (and_right (eqb a.part b.part) (same_list a.changes b.changes) (same_list_not a.changes b.changes differ))
 
--- the line of n changes is that of the first i and that of the others
-pub line_split : (xs : List ℕ) (base n i p : ℕ) → i ≤ n → line p (changes_in n (drop base xs)) ≡ line p (changes_in i (drop base xs)) ++ line p (rest change_in change_width xs base n i)
-line_split xs base n i p le =
-    let k : n ≡ i + (n - i) = omega arith in
-    ap (line p) (ap (λ u. changes_in u (drop base xs)) k ∙ (rows_append change_in change_width i (n - i) (drop base xs) ∙ ap (λ u. changes_in i (drop base xs) ++ changes_in (n - i) u) (drop-drop (change_width * i) base xs)))
-    ∙ line-append p (changes_in i (drop base xs)) (rest change_in change_width xs base n i)
+-- the line with one change more behind, which touches the part or does not
+module _ (p : ℕ) (cs ds : List Change) (x : Change) (is : cs ≡ ds ++ x ∷ []) where
+  pub line_touched : has x.parts p ≡ true → line p cs ≡ line p ds ++ x.number ∷ []
+  line_touched h = ap (line p) is ∙ (line-append p ds (x ∷ []) ∙ ap (λ b. line p ds ++ cond b (x.number ∷ []) []) h)
+
+  pub line_passed : has x.parts p ≡ false → line p cs ≡ line p ds
+  line_passed h = ap (line p) is ∙ (line-append p ds (x ∷ []) ∙ (ap (λ b. line p ds ++ cond b (x.number ∷ []) []) h ∙ append-nil (line p ds)))
 
 -- the last d of a list against the first d numbers: all were the same, one differs, one more is the same
 pub ends_true : (A F S numbers : List ℕ) (d : ℕ) → A ≡ F ++ S → length S ≡ d → take d numbers ≡ S → true ≡ same_list (drop (length A - d) A) (take d numbers)

@@ -15,11 +15,11 @@ use Rattle.run.proofs.Rows.{run_in_row}
 
 -- the part of the queue that is the k-th verdict
 abbrev pub verdict_at : List ℕ → ℕ → List ℕ
-verdict_at xs k = take (verdicts_at + verdict_width * k + verdict_width - (verdicts_at + verdict_width * k)) (drop (verdicts_at + verdict_width * k) xs)
+verdict_at xs k = take verdict_width (drop (verdicts_at + verdict_width * k) xs)
 
 module _ (xs : List ℕ) (k : ℕ) where
   number_of_verdict : (j : ℕ) → j < verdict_width → get_or (verdict_at xs k) j 0 ≡ get_or (drop (verdicts_at + verdict_width * k) xs) j 0
-  number_of_verdict j lt = get_or-take (verdicts_at + verdict_width * k + verdict_width - (verdicts_at + verdict_width * k)) (drop (verdicts_at + verdict_width * k) xs) j 0 (omega arith)
+  number_of_verdict j lt = get_or-take verdict_width (drop (verdicts_at + verdict_width * k) xs) j 0 lt
 
   -- a run that is read from it fits
   pub stored_fits : (cs : List Change) (r : declared.Run) → r.part ≡ get_or (verdict_at xs k) 0 0 → r.begins ≡ get_or (verdict_at xs k) 1 0 → Begins cs (drop (verdicts_at + verdict_width * k) xs) → r.begins ≤ length (line r.part cs)
@@ -35,7 +35,7 @@ module _ (cs : List Change) (xs : List ℕ) (n k : ℕ) (top stored : Run) (long
 
   compared : (b : Bool) → same_run stored top ≡ b → same_run top (run_in cs (drop at xs)) ≡ b
   compared b e =
-      let w = run_in_row cs (drop at xs) (at + verdict_width - at) (omega arith) (omega (arith, length-drop at xs)) in
+      let w = run_in_row cs (drop at xs) verdict_width (omega arith) (omega (arith, length-drop at xs)) in
       same_run_swap top (run_in cs (drop at xs)) ∙ (ap (λ r. same_run r top) (sym (is ∙ w)) ∙ e)
 
   heard_next : (t g : Bool) → same_run stored top ≡ t → eqb (get_or (drop at xs) run_width 0) 1 ≡ g →

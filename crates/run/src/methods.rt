@@ -1,8 +1,9 @@
 // What a run by value can be asked, and the run of a change on top of what has landed.
-ghost use Rattle.std.specs.Prelude.{◌≡◌, ◌+◌, ◌-◌, ◌*◌, ◌≤◌, min, List, length, take, drop};
+ghost use Rattle.std.specs.Prelude.{◌≡◌, ◌+◌, ◌-◌, ◌≤◌, min, List, length, take, drop};
 ghost use Rattle.change.specs.Change.{line};
 ghost use Rattle.change.specs.Change as spec;
-ghost use Rattle.change.specs.Records.{change_width, changes_in, fixed};
+ghost use Rattle.change.specs.Listed.{changes_of};
+ghost use Rattle.change.specs.Records.{changes_in, fixed};
 ghost use Rattle.run.specs.Layout.{landed_at, most_landed, most_verdicts, queue_length, verdicts_at};
 ghost use Rattle.run.specs.Limits.{most_following};
 ghost use Rattle.run.specs.Records.{run_of, verdicts_in};
@@ -12,7 +13,7 @@ use super::known::Known;
 use super::layout::{LANDED_AT, VERDICTS_AT};
 use super::records::{RUN_WIDTH, VERDICT_WIDTH, read_run};
 use super::run::{MOST_FOLLOWING, Run};
-use change::CHANGE_WIDTH;
+use change::{Changes, padded, records_at};
 
 // The run of the part with all its landed changes, of which there are `begins`, and then the change of this number.
 pub fn run_on_top(part: u64, begins: u64, number: u64) -> Run
@@ -20,54 +21,40 @@ pub fn run_on_top(part: u64, begins: u64, number: u64) -> Run
     ensures begins { result.begins ≡ begins }
     ensures value { (landed : List spec.Change) → begins ≡ length (line part landed) → run_of landed result ≡ run_on landed number part }
 {
-    let mut numbers = [0u64; MOST_FOLLOWING];
-    numbers[0] = number;
     Run {
         part,
         begins,
         follows: 1,
-        numbers,
+        numbers: padded(&[number]),
     }
 }
 
 impl Run {
+    // The changes that follow the landed ones.
+    pub fn following(&self) -> &[u64]
+        ensures { result.now ≡ take self.now.follows self.now.numbers }
+    {
+        &self.numbers[..self.follows as usize]
+    }
+
     // Its numbers, 0 in what is not used.
     pub fn padded_numbers(self) -> [u64; MOST_FOLLOWING]
         ensures { result ≡ fixed most_following (take self.follows self.numbers) }
     {
-        let mut out = [0u64; MOST_FOLLOWING];
-        for i in 0..self.follows as usize {
-            out[i] = self.numbers[i];
-        }
-        out
-    }
-
-    // Whether its n numbers behind the first d are the first n of the other's.
-    fn goes_on_as(self, d: usize, other: Run, n: usize) -> bool
-        requires { d + n ≤ most_following }
-        ensures { result ≡ same_list (take n (drop d self.numbers)) (take n other.numbers) }
-    {
-        for k in 0..n {
-            if self.numbers[d + k] != other.numbers[k] {
-                return false;
-            }
-        }
-        true
+        padded(self.following())
     }
 
     // Whether its first d numbers are the last d of the part's landed changes: looks at these from their end.
-    fn repeats_last(self, queue: &[u64], landed: usize, part: u64, d: usize) -> bool
-        requires long { landed_at + change_width * landed ≤ length queue.now }
+    fn repeats_last(self, landed: Changes<'_>, part: u64, d: usize) -> bool
         requires short { d ≤ most_following }
-        requires there { d ≤ length (line part (changes_in landed (drop landed_at queue.now))) }
-        ensures { result ≡ same_list (drop (length (line part (changes_in landed (drop landed_at queue.now))) - d) (line part (changes_in landed (drop landed_at queue.now)))) (take d self.numbers) }
+        requires there { d ≤ length (line part (changes_of landed)) }
+        ensures { result ≡ same_list (drop (length (line part (changes_of landed.entry)) - d) (line part (changes_of landed.entry))) (take d self.numbers) }
     {
         let mut left = d;
-        for i in (0..landed).rev() {
+        for c in landed.rev() {
             if left == 0 {
                 return true;
             }
-            let c = change::change_at(queue, LANDED_AT + CHANGE_WIDTH * i);
             if c.touches(part) {
                 left -= 1;
                 if c.number != self.numbers[left] {
@@ -79,12 +66,10 @@ impl Run {
     }
 
     // Whether the stored run is the run `top`, which begins with all landed changes of its part.
-    pub fn same_as(self, top: Run, queue: &[u64], landed: usize) -> bool
-        requires long { landed_at + change_width * landed ≤ length queue.now }
-        requires few { landed ≤ most_landed }
-        requires fits { self.begins ≤ length (line self.part (changes_in landed (drop landed_at queue.now))) }
-        requires all { top.begins ≡ length (line top.part (changes_in landed (drop landed_at queue.now))) }
-        ensures { result ≡ same_run (run_of (changes_in landed (drop landed_at queue.now)) self) (run_of (changes_in landed (drop landed_at queue.now)) top) }
+    pub fn same_as(self, top: Run, landed: Changes<'_>) -> bool
+        requires fits { self.begins ≤ length (line self.part (changes_of landed)) }
+        requires all { top.begins ≡ length (line top.part (changes_of landed)) }
+        ensures { result ≡ same_run (run_of (changes_of landed.entry) self) (run_of (changes_of landed.entry) top) }
     {
         if self.part != top.part {
             return false;
@@ -93,10 +78,8 @@ impl Run {
         if self.follows != d + top.follows {
             return false;
         }
-        if !self.goes_on_as(d as usize, top, top.follows as usize) {
-            return false;
-        }
-        self.repeats_last(queue, landed, top.part, d as usize)
+        let next = &self.following()[d as usize..];
+        next == top.following() && self.repeats_last(landed, top.part, d as usize)
     }
 
     // The same run, where its part has so many landed changes: it can begin with no more.
@@ -122,16 +105,18 @@ impl Run {
         requires all { self.begins ≡ length (line self.part (changes_in landed (drop landed_at queue.now))) }
         ensures { result ≡ heard (run_of (changes_in landed (drop landed_at queue.now)) self) (verdicts_in (changes_in landed (drop landed_at queue.now)) verdicts (drop verdicts_at queue.now)) }
     {
-        for k in 0..verdicts {
-            let at = VERDICTS_AT + VERDICT_WIDTH * k;
-            let verdict = &queue[at..at + VERDICT_WIDTH];
+        let landed = Changes::at(queue, LANDED_AT, landed);
+        for verdict in records_at(queue, VERDICTS_AT, VERDICT_WIDTH, verdicts) {
             if verdict[0] != self.part {
                 continue;
             }
             let stored = read_run(verdict).within(self.begins);
-            let good = verdict[RUN_WIDTH];
-            if stored.same_as(self, queue, landed) {
-                return if good == 1 { Known::Good } else { Known::Bad };
+            if stored.same_as(self, landed) {
+                return if verdict[RUN_WIDTH] == 1 {
+                    Known::Good
+                } else {
+                    Known::Bad
+                };
             }
         }
         Known::Nothing

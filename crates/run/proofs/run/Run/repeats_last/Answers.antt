@@ -1,87 +1,61 @@
-use Rattle.std.proofs.Common.{◌≡◌, ℕ, ◌+◌, ◌-◌, ◌*◌, ◌<◌, true, List, [], ◌∷◌, ◌++◌, length, take, drop, sym, ap, ◌∙◌, arith}
-use Rattle.std.proofs.lemmas.List.{drop_all, length-take}
-use Rattle.change.specs.Change.{Change, line, has}
-use Rattle.change.specs.Records.{change_of, change_in, change_width, changes_in}
-use Rattle.change.proofs.Rows.{rest, rest_all}
-use Rattle.change.proofs.ChangeLaws.{line_yes, line_no}
-use Rattle.run.specs.Layout.{landed_at}
-use Rattle.run.proofs.Compared.{line_split, ends_true, ends_false, ends_more}
+use Rattle.std.proofs.Common.{◌≡◌, ℕ, ◌+◌, ◌-◌, true, List, [], ◌∷◌, ◌++◌, length, take, drop, sym, ap, ◌∙◌, arith}
+use Rattle.std.proofs.lemmas.List.{append-nil, append_assoc, drop_all, length-take}
+use Rattle.change.specs.Change.{line}
+use Rattle.change.specs.Listed.{changes_of}
+use Rattle.change.specs.Records.{change_of}
+use Rattle.run.proofs.Compared.{line_touched, line_passed, ends_true, ends_false, ends_more}
 use Rattle.run.proofs.run.Run.repeats_last.Goals as goal
 
--- the line of the landed changes from the i-th on
-abbrev from : List ℕ → ℕ → ℕ → ℕ → List ℕ
-from xs n p i = line p (rest change_in change_width xs landed_at n i)
-
--- the line with the change before it
-one_before : (xs : List ℕ) (n i p : ℕ) (x : Change) → 0 < i → i - 1 < n → x ≡ change_in (drop (landed_at + change_width * (i - 1)) xs) → has x.parts p ≡ true → from xs n p (i - 1) ≡ x.number ∷ from xs n p i
-one_before xs n i p x positive lt is h =
-    let k : i - 1 + 1 ≡ i = omega arith in
-    line_yes change_width xs landed_at n (i - 1) p x lt is h ∙ ap (λ u. x.number ∷ from xs n p u) k
-
-pub loop-i-init : goal.loop-i-init
-loop-i-init c =
-    let numbers : List ℕ = c.args.self.numbers in
-    let e = rest_all change_in change_width c.args.queue.now landed_at c.args.landed c.args.landed (omega arith) in (
-      omega (arith, ap (λ l. length (line c.args.part l)) e),
-      drop_all c.args.d (take c.args.d numbers) (omega (arith, length-take c.args.d numbers)) ∙ ap (line c.args.part) (sym e),
-    )
+pub loop-c-init : goal.loop-c-init
+loop-c-init c = (
+  [],
+  ap (λ s. line c.args.part (changes_of s)) (sym (ap (λ r. r.iter) c.into_iter-c-iterator.ensures.into_iter_gives ∙ c.rev-c-items.ensures.source)) ∙ sym (append-nil _),
+  omega arith,
+  drop_all c.args.d (take c.args.d c.args.self.numbers) (omega (arith, length-take c.args.d c.args.self.numbers)),
+)
 
 pub returns-then-left-eq0 : goal.returns-then-left-eq0
 returns-then-left-eq0 c =
-    let xs : List ℕ = c.args.queue.now in
-    let p : ℕ = c.args.part in
-    let i : ℕ = c.loop-i.i in
-    let n : ℕ = c.args.landed in
-    ends_true (line p (changes_in n (drop landed_at xs))) (line p (changes_in i (drop landed_at xs))) (from xs n p i) c.args.self.numbers c.args.d
-    (line_split xs landed_at n i p (omega arith)) (omega (arith, c.loop-i.invariant.0, c.if-left-eq0.true))
-    (sym (ap (λ u. drop u (take c.args.d c.args.self.numbers)) c.if-left-eq0.true) ∙ c.loop-i.invariant.1)
+    let i = c.loop-c.invariant in
+    ends_true (line c.args.part (changes_of c.args.landed)) (line c.args.part (changes_of c.loop-c.c-iterator.iter)) i.0 c.args.self.numbers c.args.d i.1
+    (omega (arith, i.2, c.if-left-eq0.true)) (sym (ap (λ u. drop u (take c.args.d c.args.self.numbers)) c.if-left-eq0.true) ∙ i.3)
 
 pub returns-then-c-self : goal.returns-then-c-self
 returns-then-c-self c =
-    let xs : List ℕ = c.args.queue.now in
+    let i = c.loop-c.invariant in
     let p : ℕ = c.args.part in
-    let i : ℕ = c.loop-i.i in
-    let n : ℕ = c.args.landed in
-    let x : Change = change_of c.change_at-c.result in
-    let e = one_before xs n i p x c.loop-i-test.true (omega arith) c.change_at-c.ensures (sym c.if-touches.ensures) in
-    ends_false (line p (changes_in n (drop landed_at xs))) (line p (changes_in (i - 1) (drop landed_at xs))) (from xs n p i) c.args.self.numbers x.number c.args.d (c.loop-i.left - 1)
-    (line_split xs landed_at n (i - 1) p (omega arith) ∙ ap (λ l. line p (changes_in (i - 1) (drop landed_at xs)) ++ l) e) (omega (arith, c.loop-i.invariant.0, c.if-left-eq0.false)) c.requires.there c.if-c-self.true
+    let x = change_of c.in-Some.c in
+    let A : List ℕ = line p (changes_of c.args.landed) in
+    let F : List ℕ = line p (changes_of c.next.new.self.iter) in
+    let e = line_touched p (changes_of c.loop-c.c-iterator.iter) (changes_of c.next.new.self.iter) x c.in-Some.ensures.steps (sym c.if-touches.ensures) in
+    ends_false A F i.0 c.args.self.numbers x.number c.args.d (c.loop-c.left - 1) (i.1 ∙ (ap (λ l. l ++ i.0) e ∙ append_assoc F (x.number ∷ []) i.0))
+    (omega (arith, i.2, c.if-left-eq0.false)) c.requires.there c.if-c-self.true
 
-pub loop-i-preserved-else-c-self : goal.loop-i-preserved-else-c-self
-loop-i-preserved-else-c-self c =
-    let xs : List ℕ = c.args.queue.now in
+pub loop-c-preserved-else-c-self : goal.loop-c-preserved-else-c-self
+loop-c-preserved-else-c-self c =
+    let i = c.loop-c.invariant in
     let p : ℕ = c.args.part in
-    let i : ℕ = c.loop-i.i in
-    let n : ℕ = c.args.landed in
-    let x : Change = change_of c.change_at-c.result in
-    let e = one_before xs n i p x c.loop-i-test.true (omega arith) c.change_at-c.ensures (sym c.if-touches.ensures) in (
-      omega (arith, ap length e, c.loop-i.invariant.0, c.if-left-eq0.false),
-      ends_more (from xs n p i) (from xs n p (i - 1)) c.args.self.numbers x.number c.args.d c.loop-i.left (c.loop-i.left - 1) e
-          (omega (arith, c.if-left-eq0.false)) (omega arith) c.loop-i.invariant.0 c.if-c-self.false c.loop-i.invariant.1,
+    let x = change_of c.in-Some.c in
+    let F : List ℕ = line p (changes_of c.next.new.self.iter) in
+    let e = line_touched p (changes_of c.loop-c.c-iterator.iter) (changes_of c.next.new.self.iter) x c.in-Some.ensures.steps (sym c.if-touches.ensures) in (
+      x.number ∷ i.0,
+      i.1 ∙ (ap (λ l. l ++ i.0) e ∙ append_assoc F (x.number ∷ []) i.0),
+      omega (arith, i.2, c.if-left-eq0.false),
+      ends_more i.0 (x.number ∷ i.0) c.args.self.numbers x.number c.args.d c.loop-c.left (c.loop-c.left - 1) (λ j. x.number ∷ i.0)
+          (omega (arith, c.if-left-eq0.false)) (omega arith) i.2 c.if-c-self.false i.3,
     )
 
-pub loop-i-preserved : goal.loop-i-preserved
-loop-i-preserved c =
-    let xs : List ℕ = c.args.queue.now in
-    let p : ℕ = c.args.part in
-    let i : ℕ = c.loop-i.i in
-    let n : ℕ = c.args.landed in
-    let x : Change = change_of c.change_at-c.result in
-    let k : i - 1 + 1 ≡ i = omega arith in
-    let e : from xs n p (i - 1) ≡ from xs n p i = line_no change_width xs landed_at n (i - 1) p x (omega arith) c.change_at-c.ensures (sym c.if-touches.ensures) ∙ ap (from xs n p) k in
-    (omega (arith, ap length e, c.loop-i.invariant.0), c.loop-i.invariant.1 ∙ sym e)
+pub loop-c-preserved : goal.loop-c-preserved
+loop-c-preserved c =
+    let i = c.loop-c.invariant in
+    let e = line_passed c.args.part (changes_of c.loop-c.c-iterator.iter) (changes_of c.next.new.self.iter) (change_of c.in-Some.c) c.in-Some.ensures.steps (sym c.if-touches.ensures) in
+    (i.0, i.1 ∙ ap (λ l. l ++ i.0) e, i.2, i.3)
 
 pub returns : goal.returns
 returns c =
-    let xs : List ℕ = c.args.queue.now in
+    let i = c.loop-c.invariant in
     let p : ℕ = c.args.part in
-    let i : ℕ = c.loop-i.i in
-    let n : ℕ = c.args.landed in
-    let A : List ℕ = line p (changes_in n (drop landed_at xs)) in
-    let z : i ≡ 0 = omega arith in
-    let e = line_split xs landed_at n i p (omega arith) in
-    let none : line p (changes_in i (drop landed_at xs)) ≡ [] = ap (λ u. line p (changes_in u (drop landed_at xs))) z in
-    let a : A ≡ from xs n p i = e ∙ ap (λ l. l ++ from xs n p i) none in
-    let l : c.loop-i.left ≡ 0 = omega (arith, ap length a, c.loop-i.invariant.0, c.requires.there) in
-    ends_true A (line p (changes_in i (drop landed_at xs))) (from xs n p i) c.args.self.numbers c.args.d e (omega (arith, c.loop-i.invariant.0))
-    (sym (ap (λ u. drop u (take c.args.d c.args.self.numbers)) l) ∙ c.loop-i.invariant.1)
+    let A : List ℕ = line p (changes_of c.args.landed) in
+    let a : A ≡ i.0 = i.1 ∙ ap (λ l. line p l ++ i.0) c.in-None.ensures.steps.0 in
+    let l : c.loop-c.left ≡ 0 = omega (arith, ap length a, i.2, c.requires.there) in
+    ends_true A (line p (changes_of c.loop-c.c-iterator.iter)) i.0 c.args.self.numbers c.args.d i.1 (omega (arith, i.2)) (sym (ap (λ u. drop u (take c.args.d c.args.self.numbers)) l) ∙ i.3)
