@@ -4,14 +4,15 @@
 mod change;
 mod changes;
 mod methods;
+mod record;
 mod records;
 mod tally;
 
 pub use change::{Change, MOST_PARTS};
 pub use changes::Changes;
 pub use methods::PART_LIMIT;
+pub use record::{Record, append, remove};
 pub use records::{
-    CHANGE_WIDTH, append_change, change_at, change_round_trip, padded, read_change, records_at,
-    remove_change, remove_record, tidy_changes, write_change,
+    CHANGE_WIDTH, change_at, change_round_trip, padded, read_change, records_at, tidy_changes,
 };
 pub use tally::{PARTS, count_parts};

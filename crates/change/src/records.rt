@@ -4,6 +4,7 @@ ghost use Rattle.std.specs.Slice.Iter.{chunks_exact_rest, chunks_exact_size};
 ghost use Rattle.change.specs.Records.{ChangeRoundTrip, change_in, change_of, change_row, change_width, changes_in, fixed, row_out, table, written};
 
 use super::change::{Change, MOST_PARTS};
+use super::record::Record;
 use std::slice::ChunksExact;
 
 // A change's record: its number, its count of parts, and room for MOST_PARTS.
@@ -52,15 +53,18 @@ pub fn change_at(queue: &[u64], at: usize) -> Change
     read_change(&queue[at..at + CHANGE_WIDTH])
 }
 
-// Writes the change over a record.
-pub fn write_change(row: &mut [u64], c: Change)
-    requires { length row.old ≡ change_width }
-    ensures { row.new ≡ change_row (change_of c) }
-{
-    row[0] = c.number;
-    row[1] = c.count;
-    let parts = c.padded_parts();
-    row[2..CHANGE_WIDTH].copy_from_slice(&parts);
+impl Record for Change {
+    ghost WIDTH = { change_width };
+
+    ghost numbers = { λ c. change_row (change_of c) };
+
+    const WIDTH: usize = CHANGE_WIDTH;
+
+    fn write(self, over: &mut [u64]) {
+        over[0] = self.number;
+        over[1] = self.count;
+        over[2..].copy_from_slice(&self.padded_parts());
+    }
 }
 
 // A change that is written and read again is the same.
@@ -68,46 +72,13 @@ pub fn change_round_trip()
     ensures { ChangeRoundTrip }
 {}
 
-// Writes the change behind the first n records of a section.
-pub fn append_change(section: &mut [u64], n: usize, c: Change)
-    requires { change_width * (n + 1) ≤ length section.old }
-    ensures { section.new ≡ written (change_width * n) (change_row (change_of c)) section.old }
-{
-    write_change(
-        &mut section[CHANGE_WIDTH * n..CHANGE_WIDTH * n + CHANGE_WIDTH],
-        c,
-    );
-}
-
-// Takes record i out of the first n of this width, closes the gap, and leaves 0 in the place of the last.
-pub fn remove_record(section: &mut [u64], width: usize, n: usize, i: usize)
-    requires there { i < n }
-    requires within { width * n ≤ length section.old }
-    ensures { section.new ≡ row_out width n i section.old }
-{
-    let from = width * i;
-    let end = width * n;
-    let rows = &mut section[from..end];
-    rows.rotate_left(width);
-    let last = &mut section[end - width..end];
-    last.fill(0);
-}
-
-// Takes change i out of the first n.
-pub fn remove_change(section: &mut [u64], n: usize, i: usize)
-    requires { (i < n) × (change_width * n ≤ length section.old) }
-    ensures { section.new ≡ row_out change_width n i section.old }
-{
-    remove_record(section, CHANGE_WIDTH, n, i);
-}
-
 // Writes a record as it reads: no more parts than it has room for, and 0 in those that it does not use.
 fn tidy_change(row: &mut [u64])
     requires { length row.old ≡ change_width }
     ensures { row.new ≡ change_row (change_in row.old) }
 {
     let c = read_change(row);
-    write_change(row, c);
+    c.write(row);
 }
 
 // Writes the first n changes of a section as they read, and 0 behind them.

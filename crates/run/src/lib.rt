@@ -6,6 +6,7 @@ mod layout;
 mod methods;
 mod records;
 mod run;
+mod verdict;
 
 pub use known::Known;
 pub use layout::{
@@ -15,5 +16,6 @@ pub use layout::{
     VERDICTS_AT, VERDICTS_COUNT, WAITING_AT, WAITING_COUNT, numbers_of_layout,
 };
 pub use methods::run_on_top;
-pub use records::{RUN_WIDTH, VERDICT_WIDTH, append_verdict, read_run, write_run, write_verdict};
+pub use records::{RUN_WIDTH, VERDICT_WIDTH, read_run, says_good};
 pub use run::{MOST_FOLLOWING, Run};
+pub use verdict::Verdict;

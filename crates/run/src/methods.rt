@@ -11,7 +11,7 @@ ghost use Rattle.run.specs.Run.{heard, run_on, same_list, same_run};
 
 use super::known::Known;
 use super::layout::{LANDED_AT, VERDICTS_AT};
-use super::records::{RUN_WIDTH, VERDICT_WIDTH, read_run};
+use super::records::{VERDICT_WIDTH, read_run, says_good};
 use super::run::{MOST_FOLLOWING, Run};
 use change::{Changes, padded, records_at};
 
@@ -83,18 +83,13 @@ impl Run {
     }
 
     // The same run, where its part has so many landed changes: it can begin with no more.
-    fn within(self, landed: u64) -> Run
+    fn within(mut self, landed: u64) -> Run
         ensures part { result.part ≡ self.part }
         ensures begins { result.begins ≡ min self.begins landed }
         ensures value { (cs : List spec.Change) → landed ≡ length (line self.part cs) → run_of cs result ≡ run_of cs self }
     {
-        let numbers = self.numbers;
-        Run {
-            part: self.part,
-            begins: self.begins.min(landed),
-            follows: self.follows,
-            numbers,
-        }
+        self.begins = self.begins.min(landed);
+        self
     }
 
     // What is known of the run, which begins with all landed changes of its part: what the first verdict on it says.
@@ -112,7 +107,7 @@ impl Run {
             }
             let stored = read_run(verdict).within(self.begins);
             if stored.same_as(self, landed) {
-                return if verdict[RUN_WIDTH] == 1 {
+                return if says_good(verdict) {
                     Known::Good
                 } else {
                     Known::Bad

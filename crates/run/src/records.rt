@@ -1,10 +1,11 @@
 // Runs and verdicts as records of the lent queue.
-ghost use Rattle.std.specs.Prelude.{◌≡◌, ◌+◌, ◌*◌, ◌≤◌, List, length, slice_index};
+ghost use Rattle.std.specs.Prelude.{◌≡◌, ◌≤◌, ◌==◌, List, length, slice_index};
 ghost use Rattle.change.specs.Change as spec;
-ghost use Rattle.change.specs.Records.{written};
 ghost use Rattle.run.specs.Records.{row_of, run_in, run_of, run_width, verdict_row_of, verdict_width};
 
 use super::run::{MOST_FOLLOWING, Run};
+use super::verdict::Verdict;
+use change::Record;
 
 // A run's record: its part, how many of the part's landed changes it begins with, how many follow, and room for these.
 pub const RUN_WIDTH: usize = 19;
@@ -30,32 +31,38 @@ pub fn read_run(row: &[u64]) -> Run
     }
 }
 
-// Writes the run over a record.
-pub fn write_run(row: &mut [u64], r: Run)
-    requires { length row.old ≡ run_width }
-    ensures { row.new ≡ row_of r }
+// Whether a verdict's record says good.
+pub fn says_good(row: &[u64]) -> bool
+    requires { verdict_width ≤ length row.now }
+    ensures { result ≡ (slice_index row.now run_width == 1) }
 {
-    row[0] = r.part;
-    row[1] = r.begins;
-    row[2] = r.follows;
-    let numbers = r.padded_numbers();
-    row[3..RUN_WIDTH].copy_from_slice(&numbers);
+    row[RUN_WIDTH] == 1
 }
 
-// Writes the run over a verdict's record, and whether it was good.
-pub fn write_verdict(row: &mut [u64], r: Run, good: bool)
-    requires { length row.old ≡ verdict_width }
-    ensures { row.new ≡ verdict_row_of r good }
-{
-    write_run(&mut row[0..RUN_WIDTH], r);
-    row[RUN_WIDTH] = if good { 1 } else { 0 };
+impl Record for Run {
+    ghost WIDTH = { run_width };
+
+    ghost numbers = { row_of };
+
+    const WIDTH: usize = RUN_WIDTH;
+
+    fn write(self, over: &mut [u64]) {
+        over[0] = self.part;
+        over[1] = self.begins;
+        over[2] = self.follows;
+        over[3..].copy_from_slice(&self.padded_numbers());
+    }
 }
 
-// Writes a verdict behind the first n of a section.
-pub fn append_verdict(section: &mut [u64], n: usize, r: Run, good: bool)
-    requires { verdict_width * (n + 1) ≤ length section.old }
-    ensures { section.new ≡ written (verdict_width * n) (verdict_row_of r good) section.old }
-{
-    let at = VERDICT_WIDTH * n;
-    write_verdict(&mut section[at..at + VERDICT_WIDTH], r, good);
+impl Record for Verdict {
+    ghost WIDTH = { verdict_width };
+
+    ghost numbers = { λ v. verdict_row_of v.run v.good };
+
+    const WIDTH: usize = VERDICT_WIDTH;
+
+    fn write(self, over: &mut [u64]) {
+        self.run.write(&mut over[..RUN_WIDTH]);
+        over[RUN_WIDTH] = u64::from(self.good);
+    }
 }

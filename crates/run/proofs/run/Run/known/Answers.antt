@@ -1,4 +1,5 @@
 use Rattle.std.proofs.Common.{◌≡◌, ℕ, ◌+◌, ◌*◌, ◌<◌, ◌≤◌, true, false, List, [], ◌∷◌, ◌++◌, length, get_or, take, drop, sym, refl, ap, ◌∙◌, arith}
+use Rattle.std.proofs.lemmas.Bool.{eq-eqb, eqb-true, false≢true}
 use Rattle.std.proofs.lemmas.List.{length_push}
 use Rattle.change.specs.Change.{Change, line}
 use Rattle.change.specs.Listed.{changes_of}
@@ -50,8 +51,8 @@ module _ (xs : List ℕ) (cs : List Change) (n k : ℕ) (self : declared.Run) (i
     later : same_run (run_of cs cut) (run_of cs self) ≡ false → said (k + 1) ≡ said k
     later e = sym (heard_later cs xs n k (run_of cs self) (run_of cs cut) long inside compared e)
 
-pub returns-then-verdict-eq1 : goal.returns-then-verdict-eq1
-returns-then-verdict-eq1 c =
+pub returns-then-says_good : goal.returns-then-says_good
+returns-then-says_good c =
     let xs : List ℕ = c.args.queue.now in
     let n : ℕ = c.args.verdicts in
     let k : ℕ = length c.loop-verdict.yielded in
@@ -62,11 +63,11 @@ returns-then-verdict-eq1 c =
     let v = c.in-Some.verdict.now in
     let long : verdicts_at + verdict_width * n ≤ length xs = omega (arith, c.requires.long, c.requires.held) in
     let all = c.requires.all ∙ ap (λ l. length (line c.args.self.part l)) (sym c.at-landed.ensures) in
-    sym (good xs cs n k c.args.self it next v long i.0 c.in-Some.ensures.steps c.read_run.result c.within-stored.result all c.if-verdict-self.false c.read_run.ensures.part (c.within-stored.ensures.value cs) (c.read_run.ensures.value cs) (sym c.same_as.ensures ∙ c.if-same_as.true) c.if-verdict-eq1.true)
+    sym (good xs cs n k c.args.self it next v long i.0 c.in-Some.ensures.steps c.read_run.result c.within-stored.result all c.if-verdict-self.false c.read_run.ensures.part (c.within-stored.ensures.value cs) (c.read_run.ensures.value cs) (sym c.same_as.ensures ∙ c.if-same_as.true) (eqb-true _ _ (sym c.says_good.ensures ∙ c.if-says_good.true)))
     ∙ (i.1 ∙ ap (λ l. heard (run_of l c.args.self) (verdicts_in l n (drop verdicts_at xs))) c.at-landed.ensures)
 
-pub returns-else-verdict-eq1 : goal.returns-else-verdict-eq1
-returns-else-verdict-eq1 c =
+pub returns-else-says_good : goal.returns-else-says_good
+returns-else-says_good c =
     let xs : List ℕ = c.args.queue.now in
     let n : ℕ = c.args.verdicts in
     let k : ℕ = length c.loop-verdict.yielded in
@@ -77,7 +78,7 @@ returns-else-verdict-eq1 c =
     let v = c.in-Some.verdict.now in
     let long : verdicts_at + verdict_width * n ≤ length xs = omega (arith, c.requires.long, c.requires.held) in
     let all = c.requires.all ∙ ap (λ l. length (line c.args.self.part l)) (sym c.at-landed.ensures) in
-    sym (bad xs cs n k c.args.self it next v long i.0 c.in-Some.ensures.steps c.read_run.result c.within-stored.result all c.if-verdict-self.false c.read_run.ensures.part (c.within-stored.ensures.value cs) (c.read_run.ensures.value cs) (sym c.same_as.ensures ∙ c.if-same_as.true) c.if-verdict-eq1.false)
+    sym (bad xs cs n k c.args.self it next v long i.0 c.in-Some.ensures.steps c.read_run.result c.within-stored.result all c.if-verdict-self.false c.read_run.ensures.part (c.within-stored.ensures.value cs) (c.read_run.ensures.value cs) (sym c.same_as.ensures ∙ c.if-same_as.true) (λ q. false≢true (sym c.if-says_good.false ∙ (c.says_good.ensures ∙ eq-eqb _ _ q))))
     ∙ (i.1 ∙ ap (λ l. heard (run_of l c.args.self) (verdicts_in l n (drop verdicts_at xs))) c.at-landed.ensures)
 
 pub loop-verdict-preserved-then-verdict-self : goal.loop-verdict-preserved-then-verdict-self

@@ -1,7 +1,7 @@
 use Rattle.std.proofs.Common.{◌≡◌, ℕ, List, [], ◌∷◌, ◌++◌, length, set, ap, ◌∙◌, arith}
 use Rattle.std.proofs.lemmas.List.{drop_all, append-nil}
 use borrow.Rule.Slice.PartMut.{put_mid}
-use Rattle.run.proofs.records.write_run.Goals as goal
+use Rattle.run.proofs.records.RunRecord.write.Goals as goal
 
 -- a record whose first three places are set and whose others are written over
 row_written : (xs ys : List ℕ) (a b d : ℕ) → length xs ≡ 19 → put_mid 3 16 (set (set (set xs 0 a) 1 b) 2 d) ys ≡ a ∷ b ∷ d ∷ ys
@@ -12,5 +12,6 @@ row_written (x ∷ y ∷ z ∷ xs) ys a b d e = ap (λ zs. a ∷ b ∷ d ∷ zs)
 
 pub returns : goal.returns
 returns c =
-    let w = row_written c.args.row.now c.copy_from_slice.new.self c.args.r.part c.args.r.begins c.args.r.follows (omega arith) in
+    let r = c.args.self in
+    let w = row_written c.args.over.now c.copy_from_slice.new.self r.part r.begins r.follows c.requires in
     cc
