@@ -1,10 +1,8 @@
 -- Laws of looking at verdicts: which of them is of a run, what that says of a change's runs, and whether the change shares a part with an earlier one.
-use Rattle.std.proofs.Common.{◌≡◌, ℕ, ◌+◌, ◌*◌, ◌<◌, ◌≤◌, Bool, true, false, cond, ◌&&◌, ◌||◌, List, ◌∷◌, length, get_or, drop, sym, refl, ap, ◌∙◌, arith, length-take}
-use Rattle.std.proofs.lemmas.List.{at_drop_more, at_drop_all, get_or-take, length-take-le}
-use Rattle.change.specs.Change.{Change, share}
-use Rattle.change.specs.Records.{change_in, change_of, change_width}
-use Rattle.change.specs.declared.change.Change as DeclaredChange
-use Rattle.change.proofs.Rows.{rest, rest_all, rest_more}
+use Rattle.std.proofs.Common.{◌≡◌, ℕ, ◌+◌, ◌*◌, ◌<◌, ◌≤◌, Bool, true, false, cond, eqb, ◌&&◌, ◌||◌, List, ◌∷◌, length, get_or, drop, sym, refl, ap, ◌∙◌}
+use Rattle.std.proofs.lemmas.List.{at_drop_more, drop_all}
+use Rattle.change.specs.Change.{Change}
+use Rattle.change.proofs.Rows.{rest}
 use Rattle.run.specs.Layout.{verdicts_at}
 use Rattle.run.specs.Records.{run_in, run_width, verdict_in, verdict_width, verdicts_in}
 use Rattle.run.specs.Run.{Run, Verdict, heard, is_bad, is_good, run_on, runs_on, same_run}
@@ -14,20 +12,6 @@ use Rattle.run.proofs.Heard.{heard_bad, heard-good, heard_later, heard_none, ver
 use Rattle.decide.specs.Decide.{all_good, any_bad, decision, decision_by, shares_any}
 use Rattle.decide.specs.declared.decision.Decision.{Decision}
 use Rattle.decide.specs.declared.decision.Decision.TheVariants.{Wait, Land, Reject}
-
--- earlier changes, one by one: one shares a part, one does not
-module _ (c : Change) (xs : List ℕ) (base n h : ℕ) (lt : h < n) (x : Change) (is : x ≡ change_in (drop (base + change_width * h) xs)) where
-  shares_more : shares_any c (rest change_in change_width xs base n h) ≡ (share c.parts x.parts || shares_any c (rest change_in change_width xs base n (h + 1)))
-  shares_more = ap (shares_any c) (rest_more change_in change_width xs base n h lt) ∙ ap (λ (y : Change). share c.parts y.parts || shares_any c (rest change_in change_width xs base n (h + 1))) (sym is)
-
-  pub shares_yes : share c.parts x.parts ≡ true → shares_any c (rest change_in change_width xs base n h) ≡ true
-  shares_yes e = shares_more ∙ ap (λ b. b || shares_any c (rest change_in change_width xs base n (h + 1))) e
-
-  pub shares_no : share c.parts x.parts ≡ false → shares_any c (rest change_in change_width xs base n h) ≡ shares_any c (rest change_in change_width xs base n (h + 1))
-  shares_no e = shares_more ∙ ap (λ b. b || shares_any c (rest change_in change_width xs base n (h + 1))) e
-
-pub shares_none : (c : Change) (xs : List ℕ) (base n h : ℕ) → n ≤ h → shares_any c (rest change_in change_width xs base n h) ≡ false
-shares_none c xs base n h le = ap (shares_any c) (rest_all change_in change_width xs base n h le)
 
 -- the decision by the runs on a change's parts from the p-th on: that one is known good, known bad, or not known
 module _ (cs : List Change) (number : ℕ) (ps : List ℕ) (p : ℕ) (vs : List Verdict) (d : Decision) (lt : p < length ps) where
@@ -51,46 +35,35 @@ module _ (cs : List Change) (number : ℕ) (ps : List ℕ) (p : ℕ) (vs : List 
       either true = refl
       either false = refl
 
--- the k-th verdict is looked at, for the run on the change's p-th part; those before it were not of this run
-module _ (cs : List Change) (xs : List ℕ) (n k p : ℕ) (x : DeclaredChange.Change) (stored top : Run) (t : Bool)
-    (long : verdicts_at + verdict_width * n ≤ length xs) (lk : k < n) (le : x.count ≤ length x.parts) (lp : p < x.count)
-    (is : stored ≡ run_in cs (verdict_at xs k)) (test : t ≡ same_run stored top) (on : top ≡ run_on cs x.number (get_or x.parts p 0))
+-- the k-th verdict is looked at, for the run on the p-th part; those before it were not of this run
+module _ (cs : List Change) (xs : List ℕ) (n k p number : ℕ) (ps : List ℕ) (top : Run) (lp : p < length ps) (on : top ≡ run_on cs number (get_or ps p 0))
     (inv : heard top (rest (verdict_in cs) verdict_width xs verdicts_at n k) ≡ heard top (verdicts_in cs n (drop verdicts_at xs))) where
   abbrev vs : List Verdict
   vs = verdicts_in cs n (drop verdicts_at xs)
 
-  abbrev ps : List ℕ
-  ps = (change_of x).parts
+  abbrev from_part : Decision → ℕ → Decision
+  from_part d i = decision_by d (runs_on cs number (drop i ps)) vs
 
-  within : p < length ps
-  within = omega (arith, length-take-le x.count x.parts le)
+  known_is : (w : Known) → heard top (rest (verdict_in cs) verdict_width xs verdicts_at n k) ≡ w → heard (run_on cs number (get_or ps p 0)) vs ≡ w
+  known_is w e = ap (λ r. heard r vs) (sym on) ∙ (sym inv ∙ e)
 
-  sought : top ≡ run_on cs x.number (get_or ps p 0)
-  sought = on ∙ ap (run_on cs x.number) (sym (get_or-take x.count x.parts p 0 lp))
+  module _ (stored : Run) (t : Bool) (long : verdicts_at + verdict_width * n ≤ length xs) (lk : k < n) (is : stored ≡ run_in cs (verdict_at xs k)) (test : t ≡ same_run stored top) where
+    pub looks_good : (d : Decision) → t ≡ true → eqb (get_or (verdict_at xs k) run_width 0) 1 ≡ true → from_part d p ≡ from_part d (p + 1)
+    looks_good d e g = by_good cs number ps p vs d lp (known_is Good (heard-good cs xs n k top stored long lk is (sym test ∙ e) g))
 
-  pub looks_good : (d : Decision) → t ≡ true → get_or (verdict_at xs k) run_width 0 ≡ 1 → decision_by d (runs_on cs x.number (drop p ps)) vs ≡ decision_by d (runs_on cs x.number (drop (p + 1) ps)) vs
-  looks_good d e g = by_good cs x.number ps p vs d within (ap (λ r. heard r vs) (sym sought) ∙ (sym inv ∙ heard-good cs xs n k top stored long lk is (sym test ∙ e) g))
+    pub looks_bad : (d : Decision) → t ≡ true → eqb (get_or (verdict_at xs k) run_width 0) 1 ≡ false → from_part d p ≡ Reject
+    looks_bad d e g = by_bad cs number ps p vs d lp (known_is Bad (heard_bad cs xs n k top stored long lk is (sym test ∙ e) g))
 
-  pub looks_bad : (d : Decision) → t ≡ true → (get_or (verdict_at xs k) run_width 0 ≡ 1 → ⊥) → decision_by d (runs_on cs x.number (drop p ps)) vs ≡ Reject
-  looks_bad d e g = by_bad cs x.number ps p vs d within (ap (λ r. heard r vs) (sym sought) ∙ (sym inv ∙ heard_bad cs xs n k top stored long lk is (sym test ∙ e) g))
+    pub looks_on : t ≡ false → heard top (rest (verdict_in cs) verdict_width xs verdicts_at n (k + 1)) ≡ heard top vs
+    looks_on e = sym (heard_later cs xs n k top stored long lk is (sym test ∙ e)) ∙ inv
 
-  pub looks_on : t ≡ false → heard top (rest (verdict_in cs) verdict_width xs verdicts_at n (k + 1)) ≡ heard top vs
-  looks_on e = sym (heard_later cs xs n k top stored long lk is (sym test ∙ e)) ∙ inv
-
--- no verdict was of the run on the change's p-th part
-pub looks_in_vain : (cs : List Change) (xs : List ℕ) (n k p : ℕ) (x : DeclaredChange.Change) (top : Run) (d : Decision) → n ≤ k → x.count ≤ length x.parts → p < x.count → top ≡ run_on cs x.number (get_or x.parts p 0) →
-    heard top (rest (verdict_in cs) verdict_width xs verdicts_at n k) ≡ heard top (verdicts_in cs n (drop verdicts_at xs)) →
-    decision_by d (runs_on cs x.number (drop p (change_of x).parts)) (verdicts_in cs n (drop verdicts_at xs)) ≡ decision_by Wait (runs_on cs x.number (drop (p + 1) (change_of x).parts)) (verdicts_in cs n (drop verdicts_at xs))
-looks_in_vain cs xs n k p x top d all le lp on inv =
-    let ps : List ℕ = (change_of x).parts in
-    let vs : List Verdict = verdicts_in cs n (drop verdicts_at xs) in
-    let sought = on ∙ ap (run_on cs x.number) (sym (get_or-take x.count x.parts p 0 lp)) in
-    by_unknown cs x.number ps p vs d (omega (arith, length-take-le x.count x.parts le))
-    (ap (λ r. heard r vs) (sym sought) ∙ (sym inv ∙ heard_none cs xs n k top all))
+  -- no verdict was of it
+  pub looks_in_vain : (d : Decision) → n ≤ k → from_part d p ≡ from_part Wait (p + 1)
+  looks_in_vain d all = by_unknown cs number ps p vs d lp (known_is Nothing (heard_none cs xs n k top all))
 
 -- all parts were looked at
-pub looked : (cs : List Change) (vs : List Verdict) (p : ℕ) (x : DeclaredChange.Change) (d : Decision) → x.count ≤ p → decision_by d (runs_on cs x.number (drop p (change_of x).parts)) vs ≡ d
-looked cs vs p x d le = at_drop_all (λ qs. decision_by d (runs_on cs x.number qs) vs) (change_of x).parts p (omega (arith, length-take x.count x.parts))
+pub looked : (cs : List Change) (vs : List Verdict) (p number : ℕ) (ps : List ℕ) (d : Decision) → length ps ≤ p → decision_by d (runs_on cs number (drop p ps)) vs ≡ d
+looked cs vs p number ps d le = ap (λ qs. decision_by d (runs_on cs number qs) vs) (drop_all p ps le)
 
 -- the decision of a change that shares a part with an earlier one, and of one that does not
 module _ (vs : List Verdict) (held landed : List Change) (x : Change) where

@@ -6,8 +6,8 @@ ghost use Rattle.run.specs.Layout.{queue_length};
 ghost use Rattle.run.specs.Numbers.{Settled, decode, landed_in, whole};
 
 use super::decision::Decision;
-use super::steps::{count_landed, land, reject, take_out};
-use change::{CHANGE_WIDTH, PARTS};
+use super::steps::{land, reject, take_out};
+use change::{CHANGE_WIDTH, Changes, PARTS, change_at, count_parts, records_at};
 use run::*;
 
 // Once through those that wait, in order: each waits, lands or is rejected by the verdicts on its runs on top of what has landed by then.
@@ -24,32 +24,29 @@ pub fn pass(queue: &mut [u64], tally: &mut [u64; PARTS])
     let verdicts = queue[VERDICTS_COUNT] as usize;
     let mut decided = 0usize;
     'changes: for turn in 0..waiting {
-        let landed = queue[LANDED_COUNT] as usize;
+        // Until the change is decided, the queue is only read.
+        let now: &[u64] = queue;
+        let landed = Changes::at(now, LANDED_AT, now[LANDED_COUNT] as usize);
         // As many before it still wait, so that is its place.
         let held = turn - decided;
-        let c = change::change_at(queue, WAITING_AT + CHANGE_WIDTH * held);
-        for h in 0..held {
-            let earlier = change::change_at(queue, WAITING_AT + CHANGE_WIDTH * h);
+        let c = change_at(now, WAITING_AT + CHANGE_WIDTH * held);
+        for earlier in Changes::at(now, WAITING_AT, held) {
             if c.shares(earlier) {
                 continue 'changes;
             }
         }
+        let number = c.number;
         let mut decision = Decision::Land;
-        'parts: for p in 0..c.count as usize {
-            let part = c.parts[p];
-            let begins = change::count_of(tally, queue, LANDED_AT, landed, part);
-            let top = run_on_top(part, begins, c.number);
-            for k in 0..verdicts {
-                let at = VERDICTS_AT + VERDICT_WIDTH * k;
-                let verdict = &queue[at..at + VERDICT_WIDTH];
+        'parts: for part in c.touched() {
+            let begins = landed.count_of(tally, *part);
+            let top = run_on_top(*part, begins, number);
+            for verdict in records_at(now, VERDICTS_AT, VERDICT_WIDTH, verdicts) {
                 // Most are of other parts; these need not be read.
-                if verdict[0] != part {
+                if verdict[0] != *part {
                     continue;
                 }
-                let stored = read_run(verdict);
-                let good = verdict[RUN_WIDTH];
-                if stored.same_as(top, queue, landed) {
-                    if good == 1 {
+                if read_run(verdict).same_as(top, landed) {
+                    if says_good(verdict) {
                         continue 'parts;
                     }
                     decision = Decision::Reject;
@@ -63,7 +60,7 @@ pub fn pass(queue: &mut [u64], tally: &mut [u64; PARTS])
             Decision::Land => {
                 take_out(queue, held);
                 land(queue, c);
-                count_landed(tally, c);
+                count_parts(tally, c);
                 decided += 1;
             }
             Decision::Reject => {

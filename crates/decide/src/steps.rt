@@ -1,11 +1,11 @@
 // Moving one change in the lent queue: out of those that wait, behind those that landed, behind those that were rejected.
-ghost use Rattle.std.specs.Prelude.{◌≡◌, ℕ, ◌+◌, ◌^◌, ◌<◌, [], ◌∷◌, ◌++◌, if◌then◌else◌, slice_index};
-ghost use Rattle.change.specs.Change.{has, part_limit, without};
+ghost use Rattle.std.specs.Prelude.{◌≡◌, ◌<◌, [], ◌∷◌, ◌++◌, slice_index};
+ghost use Rattle.change.specs.Change.{without};
 ghost use Rattle.change.specs.Records.{change_of};
 ghost use Rattle.run.specs.Layout.{landed_count, most_landed, most_rejected, rejected_count, waiting_count};
 ghost use Rattle.run.specs.Numbers.{Settled, landed_in, rejected_in, waiting_in, whole, with_changes};
 
-use change::{Change, PARTS};
+use change::{Change, append, remove};
 use run::*;
 
 // Takes the i-th out of those that wait.
@@ -15,7 +15,7 @@ pub fn take_out(queue: &mut [u64], i: usize)
     ensures { queue.new ≡ whole (with_changes queue.old (landed_in queue.old) (without i (waiting_in queue.old)) (rejected_in queue.old)) }
 {
     let waiting = queue[WAITING_COUNT] as usize;
-    change::remove_change(&mut queue[WAITING_AT..REJECTED_AT], waiting, i);
+    remove::<Change>(&mut queue[WAITING_AT..REJECTED_AT], waiting, i);
     queue[WAITING_COUNT] = waiting as u64 - 1;
 }
 
@@ -26,7 +26,7 @@ pub fn land(queue: &mut [u64], c: Change)
     ensures { queue.new ≡ whole (with_changes queue.old (landed_in queue.old ++ change_of c ∷ []) (waiting_in queue.old) (rejected_in queue.old)) }
 {
     let landed = queue[LANDED_COUNT] as usize;
-    change::append_change(&mut queue[LANDED_AT..WAITING_AT], landed, c);
+    append(&mut queue[LANDED_AT..WAITING_AT], landed, c);
     queue[LANDED_COUNT] = landed as u64 + 1;
 }
 
@@ -37,18 +37,6 @@ pub fn reject(queue: &mut [u64], c: Change)
     ensures { queue.new ≡ whole (with_changes queue.old (landed_in queue.old) (waiting_in queue.old) (rejected_in queue.old ++ change_of c ∷ [])) }
 {
     let rejected = queue[REJECTED_COUNT] as usize;
-    change::append_change(&mut queue[REJECTED_AT..VERDICTS_AT], rejected, c);
+    append(&mut queue[REJECTED_AT..VERDICTS_AT], rejected, c);
     queue[REJECTED_COUNT] = rejected as u64 + 1;
-}
-
-// Counts the change at each part that it touches.
-pub fn count_landed(tally: &mut [u64; PARTS], c: Change)
-    requires { (p : ℕ) → p < part_limit → slice_index tally.old p < 2 ^ 32 }
-    ensures { (p : ℕ) → p < part_limit → slice_index tally.new p ≡ slice_index tally.old p + (if has (change_of c).parts p then 1 else 0) }
-{
-    for p in 0..PARTS {
-        if c.touches(p as u64) {
-            tally[p] += 1;
-        }
-    }
 }

@@ -1,7 +1,6 @@
 -- Laws of looking at verdicts one by one: which of them is of a run, and what is then known of it.
 use Rattle.std.proofs.Common.{◌≡◌, ℕ, ◌+◌, ◌-◌, ◌*◌, ◌<◌, ◌≤◌, Bool, true, false, cond, eqb, List, length, get_or, take, drop, sym, ap, ◌∙◌, arith, length-drop}
 use Rattle.std.proofs.lemmas.List.{get_or-take}
-use Rattle.std.proofs.lemmas.Bool.{eq-eqb, ne_eqb}
 use Rattle.change.specs.Change.{Change, line}
 use Rattle.change.proofs.Rows.{rest, rest_all, rest_more}
 use Rattle.run.specs.Layout.{verdicts_at}
@@ -44,11 +43,11 @@ module _ (cs : List Change) (xs : List ℕ) (n k : ℕ) (top stored : Run) (long
       ap (heard top) (rest_more (verdict_in cs) verdict_width xs verdicts_at n k lt)
       ∙ (λ i. cond (compared t e i) (cond (f i) Good Bad) (heard top (rest (verdict_in cs) verdict_width xs verdicts_at n (k + 1))))
 
-  pub heard-good : same_run stored top ≡ true → get_or (verdict_at xs k) run_width 0 ≡ 1 → heard top (rest (verdict_in cs) verdict_width xs verdicts_at n k) ≡ Good
-  heard-good e g = heard_next true true e (eq-eqb _ _ (sym (number_of_verdict xs k run_width (omega arith)) ∙ g))
+  pub heard-good : same_run stored top ≡ true → eqb (get_or (verdict_at xs k) run_width 0) 1 ≡ true → heard top (rest (verdict_in cs) verdict_width xs verdicts_at n k) ≡ Good
+  heard-good e g = heard_next true true e (ap (λ u. eqb u 1) (sym (number_of_verdict xs k run_width (omega arith))) ∙ g)
 
-  pub heard_bad : same_run stored top ≡ true → (get_or (verdict_at xs k) run_width 0 ≡ 1 → ⊥) → heard top (rest (verdict_in cs) verdict_width xs verdicts_at n k) ≡ Bad
-  heard_bad e g = heard_next true false e (ne_eqb _ _ (λ q. g (number_of_verdict xs k run_width (omega arith) ∙ q)))
+  pub heard_bad : same_run stored top ≡ true → eqb (get_or (verdict_at xs k) run_width 0) 1 ≡ false → heard top (rest (verdict_in cs) verdict_width xs verdicts_at n k) ≡ Bad
+  heard_bad e g = heard_next true false e (ap (λ u. eqb u 1) (sym (number_of_verdict xs k run_width (omega arith))) ∙ g)
 
   pub heard_later : same_run stored top ≡ false → heard top (rest (verdict_in cs) verdict_width xs verdicts_at n k) ≡ heard top (rest (verdict_in cs) verdict_width xs verdicts_at n (k + 1))
   heard_later e = heard_next false (eqb (get_or (drop at xs) run_width 0) 1) e (λ i. eqb (get_or (drop at xs) run_width 0) 1)

@@ -13,5 +13,5 @@ returns c =
     let xs : List ℕ = c.args.queue.now in
     let x : Change = change_of c.args.c in
     let n : ℕ = get_or xs landed_count 0 in
-    landed-written xs c.append_change.new.section (landed_in xs ++ x ∷ []) (n + 1) c.requires.settled (omega (arith, count_landed xs, length_push (landed_in xs) x))
-    (λ e. c.append_change.ensures ∙ (ap (written (change_width * n) (change_row x)) e ∙ section_more most_landed (landed_in xs) x n (sym (count_landed xs)) c.requires.few))
+    landed-written xs c.append.new.section (landed_in xs ++ x ∷ []) (n + 1) c.requires.settled (omega (arith, count_landed xs, length_push (landed_in xs) x))
+    (λ e. c.append.ensures ∙ (ap (written (change_width * n) (change_row x)) e ∙ section_more most_landed (landed_in xs) x n (sym (count_landed xs)) c.requires.few))

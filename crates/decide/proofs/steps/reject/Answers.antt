@@ -13,5 +13,5 @@ returns c =
     let xs : List ℕ = c.args.queue.now in
     let x : Change = change_of c.args.c in
     let n : ℕ = get_or xs rejected_count 0 in
-    rejected-written xs c.append_change.new.section (rejected_in xs ++ x ∷ []) (n + 1) c.requires.settled (omega (arith, count_rejected xs, length_push (rejected_in xs) x))
-    (λ e. c.append_change.ensures ∙ (ap (written (change_width * n) (change_row x)) e ∙ section_more most_rejected (rejected_in xs) x n (sym (count_rejected xs)) c.requires.few))
+    rejected-written xs c.append.new.section (rejected_in xs ++ x ∷ []) (n + 1) c.requires.settled (omega (arith, count_rejected xs, length_push (rejected_in xs) x))
+    (λ e. c.append.ensures ∙ (ap (written (change_width * n) (change_row x)) e ∙ section_more most_rejected (rejected_in xs) x n (sym (count_rejected xs)) c.requires.few))

@@ -12,5 +12,5 @@ returns c =
     let xs : List ℕ = c.args.queue.now in
     let n : ℕ = get_or xs waiting_count 0 in
     let i : ℕ = c.args.i in
-    waiting-written xs c.remove_change.new.section (without i (waiting_in xs)) (n - 1) c.requires.settled (omega (arith, count_waiting xs, length_without i (waiting_in xs) (omega (arith, count_waiting xs, c.requires.there))))
-    (λ e. c.remove_change.ensures ∙ (ap (row_out change_width n i) e ∙ section_less most_waiting (waiting_in xs) n i (sym (count_waiting xs)) c.requires.there c.requires.settled.few_waiting))
+    waiting-written xs c.remove.new.section (without i (waiting_in xs)) (n - 1) c.requires.settled (omega (arith, count_waiting xs, length_without i (waiting_in xs) (omega (arith, count_waiting xs, c.requires.there))))
+    (λ e. c.remove.ensures ∙ (ap (row_out change_width n i) e ∙ section_less most_waiting (waiting_in xs) n i (sym (count_waiting xs)) c.requires.there c.requires.settled.few_waiting))

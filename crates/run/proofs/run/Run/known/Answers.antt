@@ -1,5 +1,4 @@
-use Rattle.std.proofs.Common.{◌≡◌, ℕ, ◌+◌, ◌*◌, ◌<◌, ◌≤◌, true, false, List, [], ◌∷◌, ◌++◌, length, get_or, take, drop, sym, refl, ap, ◌∙◌, arith}
-use Rattle.std.proofs.lemmas.Bool.{eq-eqb, eqb-true, false≢true}
+use Rattle.std.proofs.Common.{◌≡◌, ℕ, ◌+◌, ◌*◌, ◌<◌, ◌≤◌, true, false, eqb, List, [], ◌∷◌, ◌++◌, length, get_or, take, drop, sym, refl, ap, ◌∙◌, arith}
 use Rattle.std.proofs.lemmas.List.{length_push}
 use Rattle.change.specs.Change.{Change, line}
 use Rattle.change.specs.Listed.{changes_of}
@@ -42,11 +41,11 @@ module _ (xs : List ℕ) (cs : List Change) (n k : ℕ) (self : declared.Run) (i
     compared : run_of cs cut ≡ run_in cs (verdict_at xs k)
     compared = same (all ∙ ap (λ p. length (line p cs)) (sym (part ∙ here))) ∙ (read ∙ ap (run_in cs) is)
 
-    good : same_run (run_of cs cut) (run_of cs self) ≡ true → get_or v run_width 0 ≡ 1 → said k ≡ Good
-    good e g = heard-good cs xs n k (run_of cs self) (run_of cs cut) long inside compared e (ap (λ l. get_or l run_width 0) (sym is) ∙ g)
+    good : same_run (run_of cs cut) (run_of cs self) ≡ true → eqb (get_or v run_width 0) 1 ≡ true → said k ≡ Good
+    good e g = heard-good cs xs n k (run_of cs self) (run_of cs cut) long inside compared e (ap (λ l. eqb (get_or l run_width 0) 1) (sym is) ∙ g)
 
-    bad : same_run (run_of cs cut) (run_of cs self) ≡ true → (get_or v run_width 0 ≡ 1 → ⊥) → said k ≡ Bad
-    bad e g = heard_bad cs xs n k (run_of cs self) (run_of cs cut) long inside compared e (λ q. g (ap (λ l. get_or l run_width 0) is ∙ q))
+    bad : same_run (run_of cs cut) (run_of cs self) ≡ true → eqb (get_or v run_width 0) 1 ≡ false → said k ≡ Bad
+    bad e g = heard_bad cs xs n k (run_of cs self) (run_of cs cut) long inside compared e (ap (λ l. eqb (get_or l run_width 0) 1) (sym is) ∙ g)
 
     later : same_run (run_of cs cut) (run_of cs self) ≡ false → said (k + 1) ≡ said k
     later e = sym (heard_later cs xs n k (run_of cs self) (run_of cs cut) long inside compared e)
@@ -63,7 +62,7 @@ returns-then-says_good c =
     let v = c.in-Some.verdict.now in
     let long : verdicts_at + verdict_width * n ≤ length xs = omega (arith, c.requires.long, c.requires.held) in
     let all = c.requires.all ∙ ap (λ l. length (line c.args.self.part l)) (sym c.at-landed.ensures) in
-    sym (good xs cs n k c.args.self it next v long i.0 c.in-Some.ensures.steps c.read_run.result c.within-stored.result all c.if-verdict-self.false c.read_run.ensures.part (c.within-stored.ensures.value cs) (c.read_run.ensures.value cs) (sym c.same_as.ensures ∙ c.if-same_as.true) (eqb-true _ _ (sym c.says_good.ensures ∙ c.if-says_good.true)))
+    sym (good xs cs n k c.args.self it next v long i.0 c.in-Some.ensures.steps c.read_run.result c.within-stored.result all c.if-verdict-self.false c.read_run.ensures.part (c.within-stored.ensures.value cs) (c.read_run.ensures.value cs) (sym c.same_as.ensures ∙ c.if-same_as.true) (sym c.says_good.ensures ∙ c.if-says_good.true))
     ∙ (i.1 ∙ ap (λ l. heard (run_of l c.args.self) (verdicts_in l n (drop verdicts_at xs))) c.at-landed.ensures)
 
 pub returns-else-says_good : goal.returns-else-says_good
@@ -78,7 +77,7 @@ returns-else-says_good c =
     let v = c.in-Some.verdict.now in
     let long : verdicts_at + verdict_width * n ≤ length xs = omega (arith, c.requires.long, c.requires.held) in
     let all = c.requires.all ∙ ap (λ l. length (line c.args.self.part l)) (sym c.at-landed.ensures) in
-    sym (bad xs cs n k c.args.self it next v long i.0 c.in-Some.ensures.steps c.read_run.result c.within-stored.result all c.if-verdict-self.false c.read_run.ensures.part (c.within-stored.ensures.value cs) (c.read_run.ensures.value cs) (sym c.same_as.ensures ∙ c.if-same_as.true) (λ q. false≢true (sym c.if-says_good.false ∙ (c.says_good.ensures ∙ eq-eqb _ _ q))))
+    sym (bad xs cs n k c.args.self it next v long i.0 c.in-Some.ensures.steps c.read_run.result c.within-stored.result all c.if-verdict-self.false c.read_run.ensures.part (c.within-stored.ensures.value cs) (c.read_run.ensures.value cs) (sym c.same_as.ensures ∙ c.if-same_as.true) (sym c.says_good.ensures ∙ c.if-says_good.false))
     ∙ (i.1 ∙ ap (λ l. heard (run_of l c.args.self) (verdicts_in l n (drop verdicts_at xs))) c.at-landed.ensures)
 
 pub loop-verdict-preserved-then-verdict-self : goal.loop-verdict-preserved-then-verdict-self
