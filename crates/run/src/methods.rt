@@ -1,5 +1,5 @@
 // What a run by value can be asked, and the run of a change on top of what has landed.
-ghost use Rattle.std.specs.Prelude.{◌≡◌, ◌+◌, ◌-◌, ◌≤◌, min, List, length, take, drop};
+ghost use Rattle.std.specs.Prelude.{◌≡◌, ◌+◌, ◌-◌, ◌<◌, ◌≤◌, min, List, [], ◌∷◌, ◌++◌, length, take, drop};
 ghost use Rattle.change.specs.Change.{line};
 ghost use Rattle.change.specs.Change as spec;
 ghost use Rattle.change.specs.Listed.{changes_of};
@@ -21,15 +21,38 @@ pub fn run_on_top(part: u64, begins: u64, number: u64) -> Run
     ensures begins { result.begins ≡ begins }
     ensures value { (landed : List spec.Change) → begins ≡ length (line part landed) → run_of landed result ≡ run_on landed number part }
 {
-    Run {
-        part,
-        begins,
-        follows: 1,
-        numbers: padded(&[number]),
-    }
+    let mut run = Run::of_landed(part, begins);
+    run.push(number);
+    run
 }
 
 impl Run {
+    // The run of the part with so many of its landed changes, and no more.
+    pub fn of_landed(part: u64, begins: u64) -> Run
+        ensures part { result.part ≡ part }
+        ensures begins { result.begins ≡ begins }
+        ensures follows { result.follows ≡ 0 }
+    {
+        Run {
+            part,
+            begins,
+            follows: 0,
+            numbers: [0; MOST_FOLLOWING],
+        }
+    }
+
+    // One change more follows.
+    pub fn push(&mut self, number: u64)
+        requires { self.old.follows < most_following }
+        ensures part { self.new.part ≡ self.old.part }
+        ensures begins { self.new.begins ≡ self.old.begins }
+        ensures follows { self.new.follows ≡ self.old.follows + 1 }
+        ensures numbers { take self.new.follows self.new.numbers ≡ take self.old.follows self.old.numbers ++ number ∷ [] }
+    {
+        self.numbers[self.follows as usize] = number;
+        self.follows += 1;
+    }
+
     // The changes that follow the landed ones.
     pub fn following(&self) -> &[u64]
         ensures { result.now ≡ take self.now.follows self.now.numbers }
