@@ -1,5 +1,6 @@
 -- Records in the lent queue: how one is read and written, and a section of them. Assumes nothing: these are definitions.
 use Rattle.std.specs.Prelude.{◌≡◌, ℕ, zero, suc, ◌+◌, ◌-◌, ◌*◌, ◌<◌, ◌≤◌, min, List, [], ◌∷◌, ◌++◌, length, take, drop, replicate, slice_index}
+use Rattle.std.proofs.Common.{arith}
 use Rattle.std.specs.List.{flat_map}
 use Rattle.change.specs.declared.change.Change as declared
 use Rattle.change.specs.Change.{Change, most_parts, part_limit, line}
@@ -7,6 +8,9 @@ use Rattle.change.specs.Change.{Change, most_parts, part_limit, line}
 -- a change's record: its number, its count of parts, and room for most_parts
 abbrev pub change_width : ℕ
 change_width = 10
+
+pub some_numbers : 0 < change_width
+some_numbers = omega arith
 
 -- n records of width w, each read by f
 abbrev pub rows : {A : Type 0} → (List ℕ → A) → ℕ → ℕ → List ℕ → List A

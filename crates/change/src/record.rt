@@ -3,8 +3,10 @@ ghost use Rattle.std.specs.Prelude.{◌≡◌, ℕ, ◌+◌, ◌*◌, ◌<◌, �
 ghost use Rattle.change.specs.Records.{row_out, written};
 
 pub trait Record {
-    // How many numbers a record has.
+    // How many numbers a record has; there are some.
     ghost WIDTH: { ℕ };
+
+    ghost some: { 0 < WIDTH };
 
     // The numbers of a value's record.
     ghost numbers: { Self → List ℕ };

@@ -1,7 +1,7 @@
 // Changes as records of the lent queue: one record, and a section of them.
 ghost use Rattle.std.specs.Prelude.{◌≡◌, ◌+◌, ◌*◌, ◌<◌, ◌≤◌, length, take, drop};
 ghost use Rattle.std.specs.Slice.Iter.{chunks_exact_rest, chunks_exact_size};
-ghost use Rattle.change.specs.Records.{ChangeRoundTrip, change_in, change_of, change_row, change_width, changes_in, fixed, row_out, table, written};
+ghost use Rattle.change.specs.Records.{ChangeRoundTrip, change_in, change_of, change_row, change_width, changes_in, fixed, some_numbers, table, written};
 
 use super::change::{Change, MOST_PARTS};
 use super::record::Record;
@@ -55,6 +55,8 @@ pub fn change_at(queue: &[u64], at: usize) -> Change
 
 impl Record for Change {
     ghost WIDTH = { change_width };
+
+    ghost some = { some_numbers };
 
     ghost numbers = { λ c. change_row (change_of c) };
 

@@ -1,5 +1,5 @@
 mod Ahead
 mod Among
-mod Kept
+mod Passed
 mod Holding
 mod Storing

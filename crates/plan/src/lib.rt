@@ -2,8 +2,9 @@
 #![tactic(auto)]
 
 mod keeping;
+mod kept;
+mod planner;
 mod planning;
 mod requesting;
-mod useful;
 
 pub use planning::plan_runs;

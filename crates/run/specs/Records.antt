@@ -1,5 +1,6 @@
 -- Runs and verdicts as records of the lent queue. Assumes nothing: these are definitions.
-use Rattle.std.specs.Prelude.{◌≡◌, ℕ, ◌-◌, ◌≤◌, min, Bool, cond, List, [], ◌∷◌, ◌++◌, length, take, drop, ◌==◌, slice_index}
+use Rattle.std.proofs.Common.{arith}
+use Rattle.std.specs.Prelude.{◌≡◌, ℕ, ◌-◌, ◌<◌, ◌≤◌, min, Bool, cond, List, [], ◌∷◌, ◌++◌, length, take, drop, ◌==◌, slice_index}
 use Rattle.change.specs.Change.{Change, line}
 use Rattle.change.specs.Records.{fixed, rows}
 use Rattle.run.specs.Limits.{most_following}
@@ -10,9 +11,15 @@ use Rattle.run.specs.declared.run.Run as declared
 abbrev pub run_width : ℕ
 run_width = 19
 
+pub some_in_run : 0 < run_width
+some_in_run = omega arith
+
 -- a verdict's record: a run's, and then 1 for good
 abbrev pub verdict_width : ℕ
 verdict_width = 20
+
+pub some_in_verdict : 0 < verdict_width
+some_in_verdict = omega arith
 
 -- the run that a record says, on top of what has landed
 abbrev pub run_in : List Change → List ℕ → Run

@@ -1,7 +1,7 @@
 // Runs and verdicts as records of the lent queue.
 ghost use Rattle.std.specs.Prelude.{◌≡◌, ◌≤◌, ◌==◌, List, length, slice_index};
 ghost use Rattle.change.specs.Change as spec;
-ghost use Rattle.run.specs.Records.{row_of, run_in, run_of, run_width, verdict_row_of, verdict_width};
+ghost use Rattle.run.specs.Records.{row_of, run_in, run_of, run_width, some_in_run, some_in_verdict, verdict_row_of, verdict_width};
 
 use super::run::{MOST_FOLLOWING, Run};
 use super::verdict::Verdict;
@@ -42,6 +42,8 @@ pub fn says_good(row: &[u64]) -> bool
 impl Record for Run {
     ghost WIDTH = { run_width };
 
+    ghost some = { some_in_run };
+
     ghost numbers = { row_of };
 
     const WIDTH: usize = RUN_WIDTH;
@@ -56,6 +58,8 @@ impl Record for Run {
 
 impl Record for Verdict {
     ghost WIDTH = { verdict_width };
+
+    ghost some = { some_in_verdict };
 
     ghost numbers = { λ v. verdict_row_of v.run v.good };
 

@@ -1,6 +1,7 @@
-use Rattle.std.proofs.Common.{◌≡◌, ℕ, ◌-◌, ◌*◌, List, length, take, drop, replicate, ap, ◌∙◌, arith}
+use Rattle.std.proofs.Common.{◌≡◌, ℕ, ◌-◌, ◌*◌, ◌≤◌, List, length, take, drop, replicate, sym, ap, ◌∙◌, subst, arith}
 use borrow.Rule.Slice.PartMut.{put_mid, same_len_mid}
 use Rattle.std.proofs.lemmas.List.{length-take-le, length-drop}
+use Rattle.change.specs.Records.{row_out}
 use Rattle.change.proofs.Rows.{record_inside, rows_turned}
 use Rattle.change.proofs.record.remove.Goals as goal
 
@@ -13,7 +14,7 @@ returns g c =
     let inside = record_inside w n i c.requires.there in
     let ys : List ℕ = put_mid (w * i) (w * n - w * i) xs c.rotate_left.new.self in
     let long : length ys ≡ length xs = same_len_mid (w * i) (w * n - w * i) xs c.rotate_left.new.self c.rotate_left.ensures.len in
-    let fits = rw (← c.WIDTH-width.ensures) at c.requires.within in
+    let fits = subst (λ u. u * n ≤ length xs) (sym c.WIDTH-width.ensures) c.requires.within in
     let l : length (take (w * n - (w * n - w)) (drop (w * n - w) ys)) ≡ w = length-take-le (w * n - (w * n - w)) (drop (w * n - w) ys) (omega (arith, length-drop (w * n - w) ys, fits)) ∙ omega arith in
     let z : c.fill.new.self ≡ replicate w 0 = c.fill.ensures.after (λ y e. e) ∙ ap (λ k. replicate k 0) l in
-    rw (← c.WIDTH-width.ensures) (rows_turned w n i xs c.rotate_left.new.self c.fill.new.self c.requires.there fits c.rotate_left.ensures.after z)
+    rows_turned w n i xs c.rotate_left.new.self c.fill.new.self c.requires.there fits c.rotate_left.ensures.after z ∙ ap (λ u. row_out u n i xs) c.WIDTH-width.ensures
