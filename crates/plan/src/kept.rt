@@ -11,6 +11,7 @@ use run::RUN_WIDTH;
 pub struct Kept<const N: usize> {
     pub numbers: [u64; N],
     pub count: usize,
+    ghost long: { length numbers ≡ N },
 }
 
 impl<const N: usize> Kept<N> {
@@ -35,13 +36,13 @@ impl<const N: usize> Kept<N> {
     }
 
     // Whether one of the records, which have this width, begins with the row of a run.
-    pub fn has(&self, width: usize, row: &[u64; RUN_WIDTH]) -> bool
+    pub fn has(&self, width: usize, row: &[u64]) -> bool
         requires within { width * self.now.count ≤ N }
         requires wide { run_width ≤ width }
         ensures { result ≡ has_row row.now (run_rows width self.now.count self.now.numbers) }
     {
         for record in records_at(&self.numbers, 0, width, self.count) {
-            if record[..RUN_WIDTH] == row[..] {
+            if row == &record[..RUN_WIDTH] {
                 return true;
             }
         }
