@@ -191,7 +191,11 @@ pub any-share : (ps qs : List ℕ) → list_any (λ p. has qs p) ps ≡ share ps
 any-share [] qs = refl
 any-share (p ∷ ps) qs = ap (λ b. has qs p || b) (any-share ps qs)
 
--- one change more in front
+-- one change more in front, which touches the part
+pub line_touched : (p : ℕ) (c : Change) (cs : List Change) → has c.parts p ≡ true → line p (c ∷ cs) ≡ c.number ∷ line p cs
+line_touched p c cs e = ap (λ b. cond b (c.number ∷ line p cs) (line p cs)) e
+
+-- how many more it makes
 pub line_more : (p : ℕ) (c : Change) (cs : List Change) → length (line p (c ∷ cs)) ≡ cond (has c.parts p) 1 0 + length (line p cs)
 line_more p c cs = go (has c.parts p)
   where

@@ -1,5 +1,5 @@
 -- Laws of records read one after another, of numbers that are written over, and of numbers filled up with 0.
-use Rattle.std.proofs.Common.{◌≡◌, ℕ, zero, suc, ◌+◌, ◌-◌, ◌*◌, ◌<◌, ◌≤◌, min, List, [], ◌∷◌, ◌++◌, length, take, drop, replicate, sym, refl, ap, ◌∙◌, ⊎_elim, add-zero, suc-add, mul-zero, zero-add, mul-suc, mul-add, arith, length-append, length-drop, take-append-drop}
+use Rattle.std.proofs.Common.{◌≡◌, ℕ, zero, suc, ◌+◌, ◌-◌, ◌*◌, ◌<◌, ◌≤◌, min, List, [], ◌∷◌, ◌++◌, length, get_or, take, drop, replicate, sym, refl, ap, ◌∙◌, ⊎_elim, add-zero, suc-add, mul-zero, zero-add, mul-suc, mul-add, arith, length-append, length-drop, take-append-drop}
 use native.Mathlib.Nat.{sub-zero}
 use borrow.Rule.Slice.PartMut.{put_mid}
 use lib.ListN.{length-replicate}
@@ -203,3 +203,17 @@ length-row_out w n i xs lt le =
     let Z : List ℕ = replicate w 0 ++ drop (w * n) xs in
     length-append (take (w * i) xs) (B ++ Z)
     ∙ omega (arith, length-take-le (w * i) xs (omega arith), length-append B Z, length-take-le (w * m) (drop (w * (i + 1)) xs) (omega (arith, length-drop (w * (i + 1)) xs)), length-append (replicate w 0) (drop (w * n) xs), length-replicate {A = ℕ} w 0, length-drop (w * n) xs)
+
+-- an iterator over n rows that has given k gives the k-th
+module _ {A : Type 0} (f : List ℕ → A) (w base n k : ℕ) (xs : List ℕ) (x : A) (more : List A) (is : rest f w xs base n k ≡ x ∷ more) where
+  pub given_inside : k < n
+  given_inside = ⊎_elim (λ lt. lt) (λ le. absurd (omega (arith, ap length (sym (rest_all f w xs base n k le) ∙ is)))) (cases_lt k n)
+
+  split : f (drop (base + w * k) xs) ∷ rest f w xs base n (k + 1) ≡ x ∷ more
+  split = sym (rest_more f w xs base n k given_inside) ∙ is
+
+  pub given_is : x ≡ f (drop (base + w * k) xs)
+  given_is = sym (ap (λ l. get_or l 0 x) split)
+
+  pub given_more : more ≡ rest f w xs base n (k + 1)
+  given_more = sym (ap (drop 1) split)

@@ -1,6 +1,6 @@
 -- Laws of useful runs: which of them a run can be, and that each begins with all landed changes of its part.
 use Rattle.std.proofs.Common.{◌≡◌, ℕ, zero, suc, ◌+◌, ◌-◌, ◌*◌, ◌<◌, ◌≤◌, min, Bool, true, false, ◌||◌, List, [], ◌∷◌, ◌++◌, length, get_or, take, drop, sym, refl, ap, ◌∙◌, subst, ⊎_elim, arith, length-append}
-use Rattle.std.proofs.lemmas.List.{take_more, append_assoc, append-nil, drop_all, take_at, drop_more, drop-drop, length_push, same_from_push}
+use Rattle.std.proofs.lemmas.List.{take_all, take_more, append_assoc, append-nil, drop_all, take_at, drop_more, drop-drop, length_push, same_from_push}
 use Rattle.std.proofs.lemmas.Bool.{eq-eqb, ne_eqb, cases_Bool, cases_eq, cases_lt, or_right, false≢true}
 use Rattle.change.specs.Change.{Change, has, line}
 use Rattle.change.specs.Records.{change_in, change_width, rows}
@@ -128,10 +128,12 @@ module _ (cs : List Change) (xs : List ℕ) (m d i : ℕ) (x : Change) (lm : i <
   look_found r b e f = sym f ∙ (ap (among r) ahead_more ∙ among-append r true own later e)
 
 -- the last number of a stored run
-pub last_is : (cs : List Change) (a : declared.Run) (k : ℕ) → a.follows ≡ k + 1 → a.follows ≤ length a.numbers → (run_of cs a).changes ≡ (take a.begins (line a.part cs) ++ take k a.numbers) ++ get_or a.numbers k 0 ∷ []
-last_is cs a k e le =
-    ap (λ u. take a.begins (line a.part cs) ++ take u a.numbers) e
-    ∙ (ap (λ l. take a.begins (line a.part cs) ++ l) (take_more a.numbers k 0 (omega arith)) ∙ sym (append_assoc (take a.begins (line a.part cs)) (take k a.numbers) (get_or a.numbers k 0 ∷ [])))
+pub last_is : (cs : List Change) (a : declared.Run) (ns : List ℕ) → ns ≡ take a.follows a.numbers → 0 < length ns →
+    (run_of cs a).changes ≡ (take a.begins (line a.part cs) ++ take (length ns - 1) ns) ++ get_or ns (length ns - 1) 0 ∷ []
+last_is cs a ns e some =
+    let k : ℕ = length ns - 1 in
+    let all : take a.follows a.numbers ≡ take k ns ++ get_or ns k 0 ∷ [] = sym e ∙ (sym (take_all (k + 1) ns (omega arith)) ∙ take_more ns k 0 (omega arith)) in
+    ap (λ l. take a.begins (line a.part cs) ++ l) all ∙ sym (append_assoc (take a.begins (line a.part cs)) (take k ns) (get_or ns k 0 ∷ []))
 
 -- a useful run begins with all landed changes of its part
 ahead_runs : (r : Run) (cs vs : List Change) (n : ℕ) (ps : List ℕ) → length vs < most_following → among r (runs_on (cs ++ vs) n ps) ≡ true → Ahead cs r

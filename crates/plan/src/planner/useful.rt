@@ -33,10 +33,12 @@ impl<'a> Planner<'a> {
         requires { stored.begins ≤ length (line stored.part (landed_in self.queue.now)) }
         ensures { Found self.entry.queue.now (run_of (landed_in self.entry.queue.now) stored) result }
     {
-        let last = *stored.following().last()?;
+        let Some(last) = stored.following().last() else {
+            return None;
+        };
         for (i, c) in self.looked_at().enumerate() {
-            if c.number == last && c.touches(stored.part) {
-                let u = self.useful_run(i, stored.part, last);
+            if c.number == *last && c.touches(stored.part) {
+                let u = self.useful_run(i, stored.part, *last);
                 if stored.same_as(u, self.landed()) {
                     return Some(u);
                 }
