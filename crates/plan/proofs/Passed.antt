@@ -72,9 +72,9 @@ unfolding table
 table_none row n = ap (λ u. replicate u 0) (sym (sub-zero n))
 
 -- a stored run, as it was read from a part that is lent on, fits what has landed
-pub stored_at : (cs : List Change) (xs : List ℕ) (at w : ℕ) (r : declared.Run) → run_width ≤ w → r.part ≡ get_or (take (at + w - at) (drop at xs)) 0 0 → r.begins ≡ get_or (take (at + w - at) (drop at xs)) 1 0 →
+pub stored_at : (cs : List Change) (xs : List ℕ) (at w : ℕ) (r : declared.Run) → run_width ≤ w → r.part ≡ get_or (take w (drop at xs)) 0 0 → r.begins ≡ get_or (take w (drop at xs)) 1 0 →
     Begins cs (drop at xs) → r.begins ≤ length (line r.part cs)
 stored_at cs xs at w r le e f h =
-    let a : r.part ≡ get_or (drop at xs) 0 0 = e ∙ get_or-take (at + w - at) (drop at xs) 0 0 (omega arith) in
-    let b : r.begins ≡ get_or (drop at xs) 1 0 = f ∙ get_or-take (at + w - at) (drop at xs) 1 0 (omega arith) in
+    let a : r.part ≡ get_or (drop at xs) 0 0 = e ∙ get_or-take w (drop at xs) 0 0 (omega arith) in
+    let b : r.begins ≡ get_or (drop at xs) 1 0 = f ∙ get_or-take w (drop at xs) 1 0 (omega arith) in
     omega (arith, ap (λ p. length (line p cs)) a)
