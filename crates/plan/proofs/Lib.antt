@@ -3,3 +3,4 @@ mod Among
 mod Passed
 mod Holding
 mod Storing
+mod Looking
