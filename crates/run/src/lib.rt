@@ -6,6 +6,7 @@ mod layout;
 mod methods;
 mod records;
 mod run;
+mod text;
 
 pub use known::Known;
 pub use layout::{
@@ -17,3 +18,4 @@ pub use layout::{
 pub use methods::run_on_top;
 pub use records::{RUN_WIDTH, VERDICT_WIDTH, append_verdict, read_run, write_run, write_verdict};
 pub use run::{MOST_FOLLOWING, Run};
+pub use text::{Changes, write_changes, write_number};
