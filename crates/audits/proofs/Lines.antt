@@ -8,9 +8,6 @@ module _ {A : Type 0} (t : A → List ℕ) where
   abbrev pub Read : List ℕ → List A → List ℕ → Type 0
   Read w done rest = (xs : List (List ℕ)) → LinesAre rest xs → LinesAre w (map t done ++ xs)
 
-  pub read_none : (w : List ℕ) (done : List A) (rest : List ℕ) → done ≡ [] → rest ≡ w → Read w done rest
-  read_none w done rest e whole = λ xs k. subst (λ ds. LinesAre w (map t ds ++ xs)) (sym e) (subst (λ v. LinesAre v xs) whole k)
-
   pushed : (done : List A) (a : A) (xs : List (List ℕ)) → map t done ++ (t a ∷ xs) ≡ map t (done ++ a ∷ []) ++ xs
   pushed [] a xs = refl
   pushed (d ∷ done) a xs = ap (λ (l : List (List ℕ)). t d ∷ l) (pushed done a xs)
