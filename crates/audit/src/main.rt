@@ -1,10 +1,10 @@
 // Checks that every state that a part had in a main line was run, and was good.
 #![tactic(auto)]
 
-use audits::{Fault, Unread, Verdict};
-use change::Change;
+use audits::{Unread, UnreadLine};
+use std::alloc::AllocError;
 use std::process::ExitCode;
-use std::{env, fmt, fs};
+use std::{env, fmt, fs, io};
 
 const HELP: &str = "Usage: audit RESULTS MAINLINE
 
@@ -20,87 +20,96 @@ Ends with status 0 if it accepts, else with status 1.
 
 Example: audit tests/audit/worked.results tests/audit/worked.mainline";
 
-// The program ends with status 1; what was printed says why.
-#[derive(Clone, Copy)]
-struct Failed;
+// Why nothing was audited.
+#[derive(Drop)]
+enum Problem {
+    Arguments,
+    NoResults,
+    NoMainLine,
+    MoreArguments,
+    File {
+        path: String,
+        error: io::Error,
+    },
+    Text {
+        text: &'static str,
+        unread: UnreadLine,
+    },
+    Memory,
+}
+
+impl fmt::Display for Problem {
+    fn fmt<W: fmt::Write>(&self, f: &mut fmt::Formatter<W>) -> fmt::Result {
+        match self {
+            Problem::Arguments => f.write_str("cannot read the arguments"),
+            Problem::NoResults => f.write_str("expected RESULTS and MAINLINE; see --help"),
+            Problem::NoMainLine => f.write_str("expected MAINLINE behind RESULTS; see --help"),
+            Problem::MoreArguments => f.write_str("more than two arguments; see --help"),
+            Problem::File { path, error } => write!(f, "cannot read {path}: {error}"),
+            Problem::Text { text, unread } => match unread.why {
+                Unread::Memory => write!(f, "no memory for the {text}"),
+                Unread::Line(malformed) => {
+                    // Lines are counted from 1.
+                    let number = unread.line.saturating_add(1);
+                    write!(f, "{text} line {number}: {malformed}")
+                }
+            },
+            Problem::Memory => f.write_str("no memory for the audit"),
+        }
+    }
+}
+
+impl From<AllocError> for Problem {
+    fn from(_e: AllocError) -> Problem {
+        Problem::Memory
+    }
+}
 
 fn main(rt: HostRuntime) -> ExitCode {
     match run(&rt) {
-        Ok(()) => ExitCode::SUCCESS,
-        Err(Failed) => ExitCode::FAILURE,
+        Ok(code) => code,
+        Err(problem) => {
+            let _ = eprintln!(rt; "audit: {problem}");
+            ExitCode::FAILURE
+        }
     }
 }
 
-fn run(rt: &HostRuntime) -> Result<(), Failed> {
-    let Ok(args) = env::args(rt) else {
-        return Err(complain(rt, "cannot read the arguments"));
-    };
-    let mut args = args.skip(1);
-    let Some(results) = args.next() else {
-        return Err(complain(rt, "expected RESULTS and MAINLINE; see --help"));
-    };
+fn run(rt: &HostRuntime) -> Result<ExitCode, Problem> {
+    let mut args = env::args(rt).map_err(|_e| Problem::Arguments)?.skip(1);
+    let results = args.next().ok_or(Problem::NoResults)?;
     if results.as_str() == "--help" {
         let _ = rt.println(HELP);
-        return Ok(());
+        return Ok(ExitCode::SUCCESS);
     }
-    let Some(main_line) = args.next() else {
-        return Err(complain(rt, "expected MAINLINE behind RESULTS; see --help"));
-    };
+    let main_line = args.next().ok_or(Problem::NoMainLine)?;
     if args.next().is_some() {
-        return Err(complain(rt, "more than two arguments; see --help"));
+        return Err(Problem::MoreArguments);
     }
-    audit_files(rt, results.as_str(), main_line.as_str())
-}
-
-fn audit_files(rt: &HostRuntime, results: &str, main_line: &str) -> Result<(), Failed> {
-    let text = read_text(rt, results)?;
-    let verdicts = match audits::read_log(rt.alloc(), text.as_str()) {
-        Ok(verdicts) => verdicts,
-        Err((line, why)) => return Err(complain_of_line(rt, "results", line, why)),
-    };
-    let text = read_text(rt, main_line)?;
-    let main = match audits::read_main_line(rt.alloc(), text.as_str()) {
-        Ok(main) => main,
-        Err((line, why)) => return Err(complain_of_line(rt, "mainline", line, why)),
-    };
-    report(rt, verdicts.as_slice(), main.as_slice())
-}
-
-fn read_text(rt: &HostRuntime, path: &str) -> Result<String, Failed> {
-    match fs::read_to_string(rt, path) {
-        Ok(text) => Ok(text),
-        Err(e) => Err(complain(rt, format_args!("cannot read {path}: {e}"))),
-    }
+    audit_files(rt, results, main_line)
 }
 
 // Audits, and prints what was found.
-fn report(rt: &HostRuntime, verdicts: &[Verdict], main: &[Change]) -> Result<(), Failed> {
-    match audits::audit(rt.alloc(), verdicts, main) {
-        Ok(None) => {
-            let count = audits::count_states(main);
-            let _ = println!(rt; "every state was run and good: {count} states");
-            Ok(())
-        }
-        Ok(Some(fault)) => {
-            let _ = println!(rt; "{fault}");
-            Err(Failed)
-        }
-        Err(_) => Err(complain(rt, "no memory for the audit")),
+fn audit_files(rt: &HostRuntime, results: String, main_line: String) -> Result<ExitCode, Problem> {
+    let text = read_text(rt, results)?;
+    let verdicts = audits::read_log(rt.alloc(), text.as_str()).map_err(|unread| Problem::Text {
+        text: "results",
+        unread,
+    })?;
+    let text = read_text(rt, main_line)?;
+    let main = audits::read_main_line(rt.alloc(), text.as_str()).map_err(|unread| Problem::Text {
+        text: "mainline",
+        unread,
+    })?;
+    if let Some(fault) = audits::audit(rt.alloc(), verdicts.as_slice(), main.as_slice())? {
+        let _ = println!(rt; "{fault}");
+        return Ok(ExitCode::FAILURE);
     }
+    let count = audits::count_states(main.as_slice());
+    let _ = println!(rt; "every state was run and good: {count} states");
+    Ok(ExitCode::SUCCESS)
 }
 
-// Lines are counted from 1.
-fn complain_of_line(rt: &HostRuntime, file: &str, line: usize, why: Unread) -> Failed {
-    match why {
-        Unread::Memory => complain(rt, format_args!("no memory for the {file}")),
-        Unread::Line(malformed) => {
-            let number = line.saturating_add(1);
-            complain(rt, format_args!("{file} line {number}: {malformed}"))
-        }
-    }
-}
-
-fn complain(rt: &HostRuntime, why: impl fmt::Display + Drop) -> Failed {
-    let _ = eprintln!(rt; "audit: {why}");
-    Failed
+fn read_text(rt: &HostRuntime, path: String) -> Result<String, Problem> {
+    fs::read_to_string(rt, path.as_str()).map_err(|error| Problem::File { path, error })
 }

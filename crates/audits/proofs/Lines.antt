@@ -1,5 +1,5 @@
 -- The lines of a text, read one after another. Assumes nothing.
-use Rattle.std.proofs.Common.{◌≡◌, ℕ, Bool, true, cond, List, [], ◌∷◌, ◌++◌, map, length, sym, refl, ap, ◌∙◌, subst, append-nil}
+use Rattle.std.proofs.Common.{◌≡◌, ℕ, List, [], ◌∷◌, ◌++◌, map, length, sym, refl, ap, subst, append-nil}
 use Rattle.std.specs.Str.Lines.{IsFirstLine}
 use Rattle.audits.specs.Text.{LinesAre}
 
@@ -8,17 +8,13 @@ module _ {A : Type 0} (t : A → List ℕ) where
   abbrev pub Read : List ℕ → List A → List ℕ → Type 0
   Read w done rest = (xs : List (List ℕ)) → LinesAre rest xs → LinesAre w (map t done ++ xs)
 
-  pub read_none : (w : List ℕ) (done : List A) (rest : List ℕ) → done ≡ [] → rest ≡ w → Read w done rest
-  read_none w done rest e whole = λ xs k. subst (λ ds. LinesAre w (map t ds ++ xs)) (sym e) (subst (λ v. LinesAre v xs) whole k)
-
   pushed : (done : List A) (a : A) (xs : List (List ℕ)) → map t done ++ (t a ∷ xs) ≡ map t (done ++ a ∷ []) ++ xs
   pushed [] a xs = refl
   pushed (d ∷ done) a xs = ap (λ (l : List (List ℕ)). t d ∷ l) (pushed done a xs)
 
-  -- one that was pushed stands for the next line
-  pub read_more : (w : List ℕ) (done more : List A) (a : A) (ok : Bool) (rest x left : List ℕ) → more ≡ cond ok (done ++ a ∷ []) done → ok ≡ true → t a ≡ x → IsFirstLine rest x left → Read w done rest → Read w more left
-  read_more w done more a ok rest x left e is s l h = λ xs k.
-      let p : more ≡ done ++ a ∷ [] = e ∙ ap (λ b. cond b (done ++ a ∷ []) done) is in
+  -- one more that was read stands for the next line
+  pub read_more : (w : List ℕ) (done more : List A) (a : A) (rest x left : List ℕ) → more ≡ done ++ a ∷ [] → t a ≡ x → IsFirstLine rest x left → Read w done rest → Read w more left
+  read_more w done more a rest x left p s l h = λ xs k.
       subst (λ ds. LinesAre w (map t ds ++ xs)) (sym p) (subst (LinesAre w) (pushed done a xs) (h (t a ∷ xs) (left, subst (λ y. IsFirstLine rest y left) (sym s) l, k)))
 
   pub read_all : (w : List ℕ) (done : List A) (rest : List ℕ) → length rest ≡ 0 → Read w done rest → LinesAre w (map t done)

@@ -1,9 +1,9 @@
 -- An audit that finds no fault, and a log that vouches for every state, are the same.
-use Rattle.std.proofs.Common.{◌≡◌, ℕ, zero, suc, ◌<◌, Bool, true, false, cond, eqb, List, [], ◌∷◌, ◌++◌, length, get_or, take, is_some, None, Option, sym, refl, ap, ◌∙◌, subst, ⊎_elim, append_assoc, arith}
+use Rattle.std.proofs.Common.{◌≡◌, ℕ, zero, suc, ◌<◌, true, false, eqb, List, [], ◌∷◌, ◌++◌, length, get_or, take, is_some, None, Option, sym, refl, ap, ◌∙◌, subst, ⊎_elim, append_assoc, arith}
 use Rattle.std.proofs.lemmas.Bool.{eq-eqb, eqb-true, or_cases, or_left, or_right, true≢false}
+use Rattle.std.proofs.lemmas.Grind.{common_steps}
 use Rattle.change.specs.Change.{Change, has}
 use Rattle.run.specs.Run.{Run, Verdict}
-use Rattle.run.specs.declared.known.Known.TheVariants.{Nothing, Good, Bad}
 use Rattle.audits.specs.Audit.{AcceptsExactly, Fault, faulty, first_fault, log_says, said_bad, said_good, state, states_at, states_from}
 
 abbrev Vouched : List Verdict → Run → Type 0
@@ -11,20 +11,10 @@ Vouched vs r = (said_good r vs ≡ true) × (said_bad r vs ≡ false)
 
 -- a state is sound exactly if it is vouched for
 good_vouched : (vs : List Verdict) (r : Run) (rest : Option Fault) → is_some (faulty (log_says r vs) r rest) ≡ false → Vouched vs r × (is_some rest ≡ false)
-good_vouched vs r rest e = go (said_bad r vs) (said_good r vs) e
-  where
-    go : (b g : Bool) → is_some (faulty (cond b Bad (cond g Good Nothing)) r rest) ≡ false → ((g ≡ true) × (b ≡ false)) × (is_some rest ≡ false)
-    go true g e = absurd (true≢false e)
-    go false true e = ((refl, refl), e)
-    go false false e = absurd (true≢false e)
+good_vouched vs r rest e = grind (arith, common_steps)
 
 vouched_good : (vs : List Verdict) (r : Run) (rest : Option Fault) → Vouched vs r → faulty (log_says r vs) r rest ≡ rest
-vouched_good vs r rest v = go (said_bad r vs) (said_good r vs) v.0 v.1
-  where
-    go : (b g : Bool) → g ≡ true → b ≡ false → faulty (cond b Bad (cond g Good Nothing)) r rest ≡ rest
-    go true g e f = absurd (true≢false f)
-    go false true e f = refl
-    go false false e f = absurd (true≢false (sym e))
+vouched_good vs r rest v = grind (arith, common_steps, v.0, v.1)
 
 -- no fault among the states of these parts, or all of them vouched for
 parts_vouched : (vs : List Verdict) (main : List Change) (ps : List ℕ) (rest : List Run) → is_some (first_fault vs (states_at main ps ++ rest)) ≡ false →

@@ -1,20 +1,12 @@
--- The text of runs, of the lines of a log and of a main line, and of what an audit finds. Assumes nothing: these are definitions.
-use Rattle.std.specs.Prelude.{◌≡◌, ℕ, Bool, true, false, cond, List, [], ◌∷◌, ◌++◌, length, codes, decimal}
+-- The text of the lines of a log and of a main line, and of what an audit finds. Assumes nothing: these are definitions.
+use Rattle.std.specs.Prelude.{◌≡◌, ℕ, false, cond, List, [], ◌∷◌, ◌++◌, length, codes, decimal}
 use Rattle.std.specs.Str.Lines.{IsFirstLine}
 use Rattle.change.specs.Change.{Change}
-use Rattle.run.specs.Run.{Run, Verdict}
+use Rattle.run.specs.Run.{Verdict}
+use Rattle.run.specs.Text.{changes_text, run_text}
 use Rattle.audits.specs.Audit.{Fault}
 use Rattle.audits.specs.declared.fault.Why.{Why}
 use Rattle.audits.specs.declared.fault.Why.TheVariants.{NeverRun, WasBad}
-
--- changes parted by a plus; `led` if others stand before them
-abbrev pub changes_text : Bool → List ℕ → List ℕ
-changes_text led [] = []
-changes_text led (n ∷ ns) = cond led (codes "+") [] ++ (decimal n ++ changes_text true ns)
-
--- a part, a colon, and the changes in it
-abbrev pub run_text : Run → List ℕ
-run_text r = decimal r.part ++ (codes ":" ++ changes_text false r.changes)
 
 -- a line of the log: a run, a blank, and good or bad
 abbrev pub verdict_text : Verdict → List ℕ

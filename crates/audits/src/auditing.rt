@@ -2,7 +2,7 @@
 ghost use Rattle.std.specs.Prelude.{◌≡◌, [], ◌∷◌, map, length, IfOk};
 ghost use Rattle.std.specs.Option.{option_map};
 ghost use Rattle.change.specs.Records.{change_of};
-ghost use Rattle.run.specs.Run.{same_list, same_run};
+ghost use Rattle.run.specs.Run.{same_run};
 ghost use Rattle.audits.specs.Audit.{AcceptsExactly, audited, fault_of, first_fault, log_says, states, states_at, verdict_of};
 
 use super::fault::{Fault, Why};
@@ -12,23 +12,18 @@ use run::Known;
 use serial::line_of;
 use std::alloc::{AllocError, Global};
 
-// Whether the lists are the same.
-fn same_changes(some: &[u64], others: &[u64]) -> bool
-    ensures { result ≡ same_list some.now others.now }
-{
-    some == others
-}
-
 impl Verdict {
     // Whether it is a verdict on the part with these changes.
+    #[tactic(auto, using(run::proofs::Slices::same_list_by_eq))]
     pub fn is_of(&self, part: u64, changes: &[u64]) -> bool
         ensures { result ≡ same_run (record { part = part; changes = changes.now }) (verdict_of self.now).run }
     {
-        part == self.part && same_changes(changes, self.changes.as_slice())
+        part == self.part && changes == self.changes.as_slice()
     }
 }
 
 // What the log says of a run: bad if one of its verdicts is, else good if one is.
+#[tactic(auto, using(crate::proofs::Log::reading_is))]
 pub fn log_says(verdicts: &[Verdict], part: u64, changes: &[u64]) -> Known
     ensures { result ≡ log_says (record { part = part; changes = changes.now }) (map verdict_of verdicts.now) }
 {
@@ -44,47 +39,39 @@ pub fn log_says(verdicts: &[Verdict], part: u64, changes: &[u64]) -> Known
     known
 }
 
-// What is wrong with the part's state in this main line.
-fn state_fault(
+// Who audits: the verdicts that must vouch for a state, and the heap for its changes.
+#[derive(Clone, Copy)]
+struct Auditor<'a> {
     heap: Global,
-    verdicts: &[Verdict],
-    main: &[Change],
-    part: u64,
-) -> Result<Option<Fault>, AllocError>
-    ensures { IfOk result (λ f. option_map fault_of f ≡ first_fault (map verdict_of verdicts.now) (states_at (map change_of main.now) (part ∷ []))) }
-{
-    let changes = line_of(heap, main, part)?;
-    match log_says(verdicts, part, changes.as_slice()) {
-        Known::Good => Ok(None),
-        Known::Nothing => Ok(Some(Fault {
-            why: Why::NeverRun,
-            part,
-            changes,
-        })),
-        Known::Bad => Ok(Some(Fault {
-            why: Why::WasBad,
-            part,
-            changes,
-        })),
-    }
+    verdicts: &'a [Verdict],
 }
 
-// The first of these parts' states in the main line that is at fault: the parts of the change.
-fn change_fault(
-    heap: Global,
-    verdicts: &[Verdict],
-    main: &[Change],
-    c: Change,
-) -> Result<Option<Fault>, AllocError>
-    ensures { IfOk result (λ f. option_map fault_of f ≡ first_fault (map verdict_of verdicts.now) (states_at (map change_of main.now) (change_of c).parts)) }
-{
-    for i in 0..c.count as usize {
-        let fault = state_fault(heap, verdicts, main, c.parts[i])?;
-        if fault.is_some() {
-            return Ok(fault);
-        }
+impl Auditor<'_> {
+    // What is wrong with the part's state in this main line.
+    fn state_fault(self, main: &[Change], part: u64) -> Result<Option<Fault>, AllocError>
+        ensures { IfOk result (λ f. option_map fault_of f ≡ first_fault (map verdict_of self.entry.verdicts.now) (states_at (map change_of main.now) (part ∷ []))) }
+    {
+        let changes = line_of(self.heap, main, part)?;
+        let why = match log_says(self.verdicts, part, changes.as_slice()) {
+            Known::Good => return Ok(None),
+            Known::Nothing => Why::NeverRun,
+            Known::Bad => Why::WasBad,
+        };
+        Ok(Some(Fault { why, part, changes }))
     }
-    Ok(None)
+
+    // The first of these parts' states in this main line that is at fault.
+    fn first_fault(self, main: &[Change], parts: &[u64]) -> Result<Option<Fault>, AllocError>
+        ensures { IfOk result (λ f. option_map fault_of f ≡ first_fault (map verdict_of self.entry.verdicts.now) (states_at (map change_of main.now) parts.now)) }
+    {
+        for part in parts {
+            let fault = self.state_fault(main, *part)?;
+            if fault.is_some() {
+                return Ok(fault);
+            }
+        }
+        Ok(None)
+    }
 }
 
 // The first state of the main line that was never run, or was bad.
@@ -95,8 +82,9 @@ pub fn audit(
 ) -> Result<Option<Fault>, AllocError>
     ensures { IfOk result (λ f. option_map fault_of f ≡ audited (map verdict_of verdicts.now) (map change_of main.now)) }
 {
-    for i in 0..main.len() {
-        let fault = change_fault(heap, verdicts, &main[0..i + 1], main[i])?;
+    let auditor = Auditor { heap, verdicts };
+    for (i, c) in main.iter().enumerate() {
+        let fault = auditor.first_fault(&main[..=i], c.touched())?;
         if fault.is_some() {
             return Ok(fault);
         }
@@ -108,16 +96,10 @@ pub fn audit(
 pub fn count_states(main: &[Change]) -> u128
     ensures { result ≡ length (states (map change_of main.now)) }
 {
-    let mut count: u128 = 0;
-    for c in main {
-        count += u128::from(c.count);
-    }
-    count
+    main.iter().map(|c| u128::from(c.count)).sum()
 }
 
 // The audit accepts exactly the main lines that the log vouches for.
-pub fn accepts_exactly() -> u8
+pub fn accepts_exactly()
     ensures { AcceptsExactly }
-{
-    0
-}
+{}

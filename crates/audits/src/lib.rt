@@ -10,7 +10,7 @@ mod verdict;
 
 pub use auditing::{accepts_exactly, audit, count_states, log_says};
 pub use fault::{Fault, Why};
-pub use malformed::{Malformed, Unread};
+pub use malformed::{Malformed, Unread, UnreadLine};
 pub use reading::{read_landed, read_log, read_main_line, read_verdict};
 pub use text::Landed;
 pub use verdict::Verdict;

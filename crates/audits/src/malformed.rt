@@ -1,4 +1,7 @@
 // What is wrong with a line of an audit's two texts.
+ghost use Rattle.std.specs.Prelude.{◌≡◌};
+ghost use Rattle.audits.specs.declared.malformed.Unread.TheVariants.{Line, Memory};
+
 use std::alloc::{AllocError, AllocFailed};
 use std::fmt;
 
@@ -41,14 +44,33 @@ pub enum Unread {
     Line(Malformed),
 }
 
+impl From<Malformed> for Unread {
+    ghost from_gives = { λ m u. u ≡ Line m };
+
+    fn from(malformed: Malformed) -> Unread {
+        Unread::Line(malformed)
+    }
+}
+
 impl From<AllocError> for Unread {
+    ghost from_gives = { λ _ u. u ≡ Memory };
+
     fn from(_e: AllocError) -> Unread {
         Unread::Memory
     }
 }
 
 impl<T: Drop> From<AllocFailed<T>> for Unread {
+    ghost from_gives = { λ _ u. u ≡ Memory };
+
     fn from(_e: AllocFailed<T>) -> Unread {
         Unread::Memory
     }
+}
+
+// The first line of a text that was not read, counted from 0, and why.
+#[derive(Clone, Copy)]
+pub struct UnreadLine {
+    pub line: usize,
+    pub why: Unread,
 }

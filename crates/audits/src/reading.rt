@@ -1,11 +1,11 @@
 // Reads the two texts of an audit, line by line: a log of verdicts, and a main line.
-ghost use Rattle.std.specs.Prelude.{◌≡◌, ◌<◌, map, IfSome, IfOk, None};
+ghost use Rattle.std.specs.Prelude.{◌≡◌, ℕ, ◌<◌, List, map, IfSome, IfOk, None};
 ghost use Rattle.change.specs.Change.{fault};
 ghost use Rattle.change.specs.Records.{change_of};
 ghost use Rattle.audits.specs.Audit.{verdict_of};
 ghost use Rattle.audits.specs.Text.{LinesAre, landed_text, verdict_text};
 
-use super::malformed::{Malformed, Unread};
+use super::malformed::{Malformed, Unread, UnreadLine};
 use super::text::Landed;
 use super::verdict::Verdict;
 use change::{Change, MOST_PARTS, PART_LIMIT};
@@ -19,22 +19,14 @@ fn number_below(text: &str, limit: u64) -> Option<u64>
     if text.starts_with("+") {
         return None;
     }
-    match text.parse::<u64>() {
-        Ok(n) if n < limit => Some(n),
-        _ => None,
-    }
+    text.parse::<u64>().ok().filter(|n| *n < limit)
 }
 
 // The changes of a run: numbers parted by a plus.
 fn read_changes(heap: Global, text: &str) -> Result<Vec<u64>, Unread> {
-    let mut changes = Vec::new(heap);
-    for piece in text.split('+') {
-        let Some(number) = number_below(piece, NUMBER_LIMIT) else {
-            return Err(Unread::Line(Malformed::Number));
-        };
-        changes.push(number)?;
-    }
-    Ok(changes)
+    text.split('+')
+        .map(|piece| number_below(piece, NUMBER_LIMIT).ok_or(Unread::Line(Malformed::Number)))
+        .try_collect(heap)
 }
 
 // A line of the log, as `0:1+2 good`: what is read is what would be written so.
@@ -52,19 +44,14 @@ pub fn read_verdict(heap: Global, line: &str) -> Result<Verdict, Unread>
 
 // The verdict that the pieces of a line say; a number may have zeros in front.
 fn take_apart(heap: Global, line: &str) -> Result<Verdict, Unread> {
-    let Some((run, word)) = line.split_once(' ') else {
-        return Err(Unread::Line(Malformed::Verdict));
+    let (run, word) = line.split_once(' ').ok_or(Malformed::Verdict)?;
+    let good = match word {
+        "good" => true,
+        "bad" => false,
+        _ => return Err(Unread::Line(Malformed::Verdict)),
     };
-    let good = word == "good";
-    if !good && word != "bad" {
-        return Err(Unread::Line(Malformed::Verdict));
-    }
-    let Some((part, changes)) = run.split_once(':') else {
-        return Err(Unread::Line(Malformed::Part));
-    };
-    let Some(part) = number_below(part, PART_LIMIT) else {
-        return Err(Unread::Line(Malformed::Part));
-    };
+    let (part, changes) = run.split_once(':').ok_or(Malformed::Part)?;
+    let part = number_below(part, PART_LIMIT).ok_or(Malformed::Part)?;
     Ok(Verdict {
         part,
         changes: read_changes(heap, changes)?,
@@ -77,12 +64,11 @@ pub fn read_landed(heap: Global, line: &str) -> Result<Change, Unread>
     ensures text { IfOk result (λ c. landed_text (change_of c) ≡ line.now) }
     ensures sound { IfOk result (λ c. fault (change_of c) ≡ None) }
 {
-    let Some(first) = line.split_ascii_whitespace().next() else {
-        return Err(Unread::Line(Malformed::Number));
-    };
-    let Some(number) = number_below(first, NUMBER_LIMIT) else {
-        return Err(Unread::Line(Malformed::Number));
-    };
+    let first = line
+        .split_ascii_whitespace()
+        .next()
+        .ok_or(Malformed::Number)?;
+    let number = number_below(first, NUMBER_LIMIT).ok_or(Malformed::Number)?;
     let c = with_parts(number, line)?;
     if c.first_fault().is_some() {
         return Err(Unread::Line(Malformed::Parts));
@@ -98,17 +84,14 @@ pub fn read_landed(heap: Global, line: &str) -> Result<Change, Unread>
 
 // The change of this number with the parts that stand behind it in the line.
 fn with_parts(number: u64, line: &str) -> Result<Change, Unread> {
-    let mut count = 0;
+    let words = || line.split_ascii_whitespace().skip(1);
+    let count = words().count();
+    if count > MOST_PARTS {
+        return Err(Unread::Line(Malformed::Parts));
+    }
     let mut parts = [0u64; MOST_PARTS];
-    for word in line.split_ascii_whitespace().skip(1) {
-        let Some(part) = number_below(word, PART_LIMIT) else {
-            return Err(Unread::Line(Malformed::Parts));
-        };
-        if count >= MOST_PARTS {
-            return Err(Unread::Line(Malformed::Parts));
-        }
-        parts[count] = part;
-        count += 1;
+    for (part, word) in parts.iter_mut().zip(words()) {
+        *part = number_below(word, PART_LIMIT).ok_or(Malformed::Parts)?;
     }
     Ok(Change {
         number,
@@ -117,38 +100,36 @@ fn with_parts(number: u64, line: &str) -> Result<Change, Unread> {
     })
 }
 
-// All verdicts of a log, or the number of the first line that is not one, and why.
-pub fn read_log(heap: Global, text: &str) -> Result<Vec<Verdict>, (usize, Unread)>
-    ensures { IfOk result (λ vs. LinesAre text.now (map (λ v. verdict_text (verdict_of v)) vs.items)) }
+// What `read` makes of the lines of a text, or the first line that it does not read, and why.
+fn read_lines<T: Drop, F: Fn(Global, &str) -> Result<T, Unread>>(
+    heap: Global,
+    text: &str,
+    read: F,
+) -> Result<Vec<T>, UnreadLine>
+    requires { F.IsAlwaysCallable read }
+    ensures { (t : T → List ℕ) → ((h : _) (line : _) (x : T) → F.post read h line (Ok x) → t x ≡ line.now) → IfOk result (λ xs. LinesAre text.now (map t xs.items)) }
 {
-    let mut verdicts = Vec::new(heap);
-    for (i, line) in text.lines().enumerate() {
-        match read_verdict(heap, line) {
-            Ok(v) => {
-                if verdicts.push(v).is_err() {
-                    return Err((i, Unread::Memory));
-                }
-            }
-            Err(why) => return Err((i, why)),
-        }
+    let mut all = Vec::new(heap);
+    for (line, words) in text.lines().enumerate() {
+        let x = read(heap, words).map_err(|why| UnreadLine { line, why })?;
+        all.push(x).map_err(|e| UnreadLine {
+            line,
+            why: Unread::from(e),
+        })?;
     }
-    Ok(verdicts)
+    Ok(all)
 }
 
-// All changes of a main line, or the number of the first line that is not one, and why.
-pub fn read_main_line(heap: Global, text: &str) -> Result<Vec<Change>, (usize, Unread)>
+// All verdicts of a log, or its first line that is not one.
+pub fn read_log(heap: Global, text: &str) -> Result<Vec<Verdict>, UnreadLine>
+    ensures { IfOk result (λ vs. LinesAre text.now (map (λ v. verdict_text (verdict_of v)) vs.items)) }
+{
+    read_lines(heap, text, read_verdict)
+}
+
+// All changes of a main line, or its first line that is not one.
+pub fn read_main_line(heap: Global, text: &str) -> Result<Vec<Change>, UnreadLine>
     ensures { IfOk result (λ cs. LinesAre text.now (map (λ c. landed_text (change_of c)) cs.items)) }
 {
-    let mut main = Vec::new(heap);
-    for (i, line) in text.lines().enumerate() {
-        match read_landed(heap, line) {
-            Ok(c) => {
-                if main.push(c).is_err() {
-                    return Err((i, Unread::Memory));
-                }
-            }
-            Err(why) => return Err((i, why)),
-        }
-    }
-    Ok(main)
+    read_lines(heap, text, read_landed)
 }

@@ -1,41 +1,14 @@
 // What `{}` writes of verdicts, landed changes and faults.
-ghost use Rattle.std.specs.Prelude.{false, [], ◌++◌, if◌then◌else◌, Some, codes, decimal};
-ghost use Rattle.std.specs.Fmt.{WritesOnOk};
+ghost use Rattle.std.specs.Prelude.{Some};
 ghost use Rattle.change.specs.Records.{change_of};
 ghost use Rattle.audits.specs.Audit.{fault_of, verdict_of};
-ghost use Rattle.audits.specs.Text.{changes_text, fault_text, landed_text, parts_text, verdict_text};
+ghost use Rattle.audits.specs.Text.{fault_text, landed_text, parts_text, verdict_text};
 
 use super::fault::{Fault, Why};
 use super::verdict::Verdict;
 use change::Change;
+use run::ChangesText;
 use std::fmt;
-
-#[derive(Clone, Copy)]
-struct Changes<'a>(&'a [u64]);
-
-impl fmt::Display for Changes<'_> {
-    ghost output = { λ c. Some (changes_text false c.0.now) };
-
-    fn fmt<W: fmt::Write>(&self, f: &mut fmt::Formatter<W>) -> fmt::Result {
-        let mut led = false;
-        for number in self.0 {
-            write_number(f, led, *number)?;
-            led = true;
-        }
-        Ok(())
-    }
-}
-
-// Writes the number of a change in a run, behind a plus if others stand before it.
-fn write_number<W: fmt::Write>(f: &mut fmt::Formatter<W>, led: bool, number: u64) -> fmt::Result
-    ensures { WritesOnOk W.write_str_gives f.old result ((if led then codes "+" else []) ++ decimal number) f.new }
-{
-    if led {
-        write!(f, "+{number}")
-    } else {
-        write!(f, "{number}")
-    }
-}
 
 // A line of the log, as `0:1+2 good`.
 impl fmt::Display for Verdict {
@@ -43,7 +16,7 @@ impl fmt::Display for Verdict {
 
     fn fmt<W: fmt::Write>(&self, f: &mut fmt::Formatter<W>) -> fmt::Result {
         let part = self.part;
-        let changes = Changes(self.changes.as_slice());
+        let changes = ChangesText(self.changes.as_slice());
         if self.good {
             write!(f, "{part}:{changes} good")
         } else {
@@ -87,7 +60,7 @@ impl fmt::Display for Fault {
 
     fn fmt<W: fmt::Write>(&self, f: &mut fmt::Formatter<W>) -> fmt::Result {
         let part = self.part;
-        let changes = Changes(self.changes.as_slice());
+        let changes = ChangesText(self.changes.as_slice());
         match self.why {
             Why::NeverRun => write!(f, "never run {part}:{changes}"),
             Why::WasBad => write!(f, "bad {part}:{changes}"),

@@ -4,3 +4,4 @@ pub mod Records
 pub mod Layout
 pub mod State
 pub mod Numbers
+pub mod Text

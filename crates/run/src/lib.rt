@@ -6,6 +6,7 @@ mod layout;
 mod methods;
 mod records;
 mod run;
+mod text;
 mod verdict;
 
 pub use known::Known;
@@ -19,3 +20,4 @@ pub use methods::run_on_top;
 pub use records::{RUN_WIDTH, VERDICT_WIDTH, read_run, says_good};
 pub use run::{MOST_FOLLOWING, Run};
 pub use verdict::Verdict;
+pub use text::{ChangesText, write_changes, write_number};

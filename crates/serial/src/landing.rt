@@ -19,16 +19,16 @@ pub struct Decided {
 pub fn line_of(heap: Global, changes: &[Change], part: u64) -> Result<Vec<u64>, AllocError>
     ensures { IfOk result (λ v. v.items ≡ line part (map change_of changes.now)) }
 {
-    let mut numbers = Vec::new(heap);
-    for c in changes {
-        if c.touches(part) {
-            numbers.push(c.number)?;
-        }
-    }
-    Ok(numbers)
+    changes
+        .iter()
+        .copied()
+        .filter(|c| c.touches(part))
+        .map(|c| c.number)
+        .collect(heap)
 }
 
 // Whether the change is good on each of its parts, on top of what has landed.
+#[tactic(auto, unfolding(crate::specs::Serial::passes, crate::specs::Serial::passes_on))]
 pub fn passes<B: Bench>(
     heap: Global,
     bench: &B,
@@ -37,10 +37,10 @@ pub fn passes<B: Bench>(
 ) -> Result<bool, AllocError>
     ensures { IfOk result (λ b. b ≡ passes_over (B.says bench.now) (map change_of landed.now) (change_of c)) }
 {
-    for i in 0..c.count as usize {
-        let mut numbers = line_of(heap, landed, c.parts[i])?;
+    for part in c.touched() {
+        let mut numbers = line_of(heap, landed, *part)?;
         numbers.push(c.number)?;
-        if !bench.good(c.parts[i], numbers.as_slice()) {
+        if !bench.good(*part, numbers.as_slice()) {
             return Ok(false);
         }
     }
@@ -48,6 +48,7 @@ pub fn passes<B: Bench>(
 }
 
 // Takes the changes one at a time: one that passes lands, another is rejected.
+#[tactic(auto, unfolding(crate::specs::Serial::serial_landed, crate::specs::Serial::serial_rejected))]
 pub fn decide_serially<B: Bench>(
     heap: Global,
     bench: &B,

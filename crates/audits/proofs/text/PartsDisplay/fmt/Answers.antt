@@ -1,11 +1,9 @@
 use Rattle.std.proofs.Common.{refl, ap, arith}
 use Rattle.std.proofs.lemmas.List.{drop_more, drop_all}
+use Rattle.run.proofs.Writing.{sofar_more, sofar_all}
 use Rattle.audits.specs.Text.{parts_text}
-use Rattle.audits.proofs.Writing.{sofar_none, sofar_more, sofar_all, parts_more}
+use Rattle.audits.proofs.Writing.{parts_more}
 use Rattle.audits.proofs.text.PartsDisplay.fmt.Goals as goal
-
-pub loop-part-init : goal.loop-part-init
-loop-part-init g c = sofar_none g.W.Write.write_str_gives _ _
 
 pub loop-part-preserved : goal.loop-part-preserved
 loop-part-preserved g c =

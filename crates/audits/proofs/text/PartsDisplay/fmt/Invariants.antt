@@ -1,6 +1,6 @@
 use Rattle.std.proofs.Common.{drop}
 use Rattle.audits.specs.Text.{parts_text}
-use Rattle.audits.proofs.Writing.{Sofar}
+use Rattle.run.proofs.Writing.{Sofar}
 use Rattle.audits.proofs.text.PartsDisplay.fmt.Given as goal
 
 abbrev pub invariant-loop-part : goal.invariant-loop-part
