@@ -1,22 +1,18 @@
-use Rattle.std.proofs.Common.{◌+◌, ◌||◌, map, drop, sym, ap, ◌∙◌}
-use Rattle.std.proofs.lemmas.List.{drop_all}
-use Rattle.std.proofs.lemmas.Bool.{eq-eqb, ne_eqb}
+use Rattle.std.proofs.Common.{rules, ◌≡◌, ℕ, ◌||◌, eqb, List, [], ◌∷◌, map, refl, ap, ◌∙◌}
+use Rattle.std.specs.List.{list_any}
+use Rattle.std.proofs.lemmas.Iterator.{YieldsList-from_slice}
+use Rattle.std.proofs.lemmas.Iterator.Search.{any_from_yields_List}
+use borrow.Author.Tests.{tests}
 use Rattle.change.specs.Change.{numbered}
 use Rattle.change.specs.Records.{change_of}
-use Rattle.serial.proofs.Steps.{mapped_more}
+use Rattle.change.specs.declared.change.Change as declared
 use Rattle.trial.proofs.compare.is_numbered.Goals as goal
 
-pub returns-then-c-number : goal.returns-then-c-number
-returns-then-c-number c =
-    sym (ap (numbered c.args.number) (mapped_more change_of c.args.changes.now c.loop-c.c-index c.c-item.result c.loop-c-test.true c.c-item.is)
-    ∙ ap (λ b. b || numbered c.args.number (map change_of (drop (c.loop-c.c-index + 1) c.args.changes.now))) (eq-eqb _ _ c.if-c-number.true))
-    ∙ c.loop-c.invariant
-
-pub loop-c-preserved : goal.loop-c-preserved
-loop-c-preserved c =
-    sym (ap (numbered c.args.number) (mapped_more change_of c.args.changes.now c.loop-c.c-index c.c-item.result c.loop-c-test.true c.c-item.is)
-    ∙ ap (λ b. b || numbered c.args.number (map change_of (drop (c.loop-c.c-index + 1) c.args.changes.now))) (ne_eqb _ _ c.if-c-number.false))
-    ∙ c.loop-c.invariant
+any-numbered : (n : ℕ) (cs : List declared.Change) → list_any (λ x. eqb x.number n) cs ≡ numbered n (map change_of cs)
+any-numbered n [] = refl
+any-numbered n (c ∷ cs) = ap (λ b. eqb c.number n || b) (any-numbered n cs)
 
 pub returns : goal.returns
-returns c = ap (λ l. numbered c.args.number (map change_of l)) (sym (drop_all c.loop-c.c-index c.args.changes.now c.loop-c-test.false)) ∙ c.loop-c.invariant
+returns c =
+    any_from_yields_List (λ x. eqb x.number c.args.number) c.any.new.self _ _ c.any.ensures.ran (YieldsList-from_slice c.args.changes.now c.iter.ensures.rest) (λ x b q k. search (rules, tests))
+    ∙ any-numbered c.args.number c.args.changes.now
