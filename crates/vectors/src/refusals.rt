@@ -273,8 +273,9 @@ fn put(queue: &mut [u64], what: (usize, u64)) {
 fn answer(queue: &mut [u64], before: &mut [u64], case: Case) -> Option<(u64, u64)> {
     let Case(length, faults, event, _) = case;
     small(queue);
-    put(queue, faults[0]);
-    put(queue, faults[1]);
+    for fault in faults {
+        put(queue, fault);
+    }
     if length > queue.len() || before.len() != queue.len() {
         return None;
     }
@@ -282,10 +283,8 @@ fn answer(queue: &mut [u64], before: &mut [u64], case: Case) -> Option<(u64, u64
     let Reply::Refused(refusal) = queue::apply(&mut queue[0..length], &event) else {
         return None;
     };
-    for i in 0..queue.len() {
-        if queue[i] != before[i] {
-            return None;
-        }
+    if &*queue != &*before {
+        return None;
     }
     Some(refusal.code())
 }
