@@ -1,16 +1,16 @@
 // Holds the queue's state against serial testing, and against what it promises of the runs that are running.
-ghost use Rattle.std.specs.Prelude.{◌≡◌, ◌<◌, min, map, length, drop, slice_index};
-ghost use Rattle.change.specs.Change.{line, numbered};
-ghost use Rattle.change.specs.Records.{change_of, changes_in};
-ghost use Rattle.run.specs.Layout.{landed_at, landed_count, most_landed};
+ghost use Rattle.std.specs.Prelude.{◌≡◌, ◌<◌, length};
+ghost use Rattle.std.specs.Iterator.{IsFinite};
+ghost use Rattle.change.specs.Change.{line};
 ghost use Rattle.run.specs.Limits.{most_following};
+ghost use Rattle.trial.specs.Held.{landed_held};
 
 use super::bench::HashBench;
 use super::state::State;
-use change::{CHANGE_WIDTH, Change, PART_LIMIT};
+use change::{Change, Changes, PART_LIMIT, Record};
 use run::{
-    BENCHES_AT, DEPTH_AT, Known, LANDED_AT, LANDED_COUNT, MOST_DEPTH, MOST_FOLLOWING, MOST_LANDED,
-    MOST_VERDICTS, MOST_WAITING, RUN_WIDTH, Run, VERDICTS_COUNT, WAITING_AT, WAITING_COUNT,
+    BENCHES_AT, Known, LANDED_COUNT, MOST_LANDED, MOST_VERDICTS, RUN_WIDTH, Run, VERDICTS_COUNT,
+    WAITING_AT, WAITING_COUNT,
 };
 use serial::{decide_serially, line_of};
 use std::alloc::{AllocError, Global};
@@ -84,10 +84,7 @@ pub fn check_running(state: State) -> Option<Difference> {
 
 // Whether every useful run is running or known.
 fn all_booked(state: State) -> bool {
-    let queue = state.queue;
-    let looked = queue[WAITING_COUNT].min(queue[DEPTH_AT]).min(MOST_DEPTH);
-    for i in 0..looked as usize {
-        let c = change::change_at(queue, WAITING_AT + CHANGE_WIDTH * i);
+    for (i, c) in state.looked_at().enumerate() {
         for part in c.touched() {
             if !is_booked(state, useful_run(state, i, *part, c.number)) {
                 return false;
@@ -101,35 +98,24 @@ fn all_booked(state: State) -> bool {
 // Put together here anew, and not by the queue's own function for it, so that a fault in that is seen.
 fn useful_run(state: State, n: usize, part: u64, number: u64) -> Run
     requires { n < most_following }
-    ensures { result.begins ≡ length (line result.part (changes_in (min (slice_index state.entry.queue.now landed_count) most_landed) (drop landed_at state.entry.queue.now))) }
+    ensures { result.begins ≡ length (line result.part (landed_held state.entry.queue.now)) }
 {
-    let queue = state.queue;
-    let landed = queue[LANDED_COUNT].min(MOST_LANDED as u64) as usize;
-    let begins = change::count_touching(queue, LANDED_AT, landed, part);
-    let mut numbers = [0u64; MOST_FOLLOWING];
-    let mut follows = 0usize;
-    for i in 0..n {
-        let c = change::change_at(queue, WAITING_AT + CHANGE_WIDTH * i);
+    let mut run = Run::of_landed(part, state.landed().count_touching(part));
+    for c in Changes::at(state.queue, WAITING_AT, n) {
         if c.touches(part) {
-            numbers[follows] = c.number;
-            follows += 1;
+            run.push(c.number);
         }
     }
-    numbers[follows] = number;
-    Run {
-        part,
-        begins,
-        follows: follows as u64 + 1,
-        numbers,
-    }
+    run.push(number);
+    run
 }
 
 // Whether the run, which begins with its part's whole line, is running or known.
 fn is_booked(state: State, run: Run) -> bool
-    requires { run.begins ≡ length (line run.part (changes_in (min (slice_index state.queue.now landed_count) most_landed) (drop landed_at state.queue.now))) }
+    requires { run.begins ≡ length (line run.part (landed_held state.queue.now)) }
 {
     let mut row = [0u64; RUN_WIDTH];
-    run::write_run(&mut row, run);
+    run.write(&mut row);
     if state.running().contains(&row) {
         return true;
     }
@@ -142,42 +128,29 @@ fn is_booked(state: State, run: Run) -> bool
 // Whether the run is its part's whole landed line, and then the first of those that wait and touch the part,
 // the last of them among the changes looked at.
 fn is_useful(state: State, run: Run) -> bool {
-    let queue = state.queue;
-    let landed = queue[LANDED_COUNT].min(MOST_LANDED as u64) as usize;
-    run.begins == change::count_touching(queue, LANDED_AT, landed, run.part)
-        && follows_waiting(state, run)
+    run.begins == state.landed().count_touching(run.part) && follows_waiting(state, run)
 }
 
 // Whether the changes that follow in the run are the first of those looked at that touch its part.
 fn follows_waiting(state: State, run: Run) -> bool {
-    let queue = state.queue;
-    let looked = queue[WAITING_COUNT]
-        .min(queue[DEPTH_AT])
-        .min(MOST_WAITING as u64);
-    let mut met = 0usize;
-    for i in 0..looked as usize {
-        let c = change::change_at(queue, WAITING_AT + CHANGE_WIDTH * i);
-        if c.touches(run.part) {
-            if met >= run.follows as usize || run.numbers[met] != c.number {
-                return met == run.follows as usize && met > 0;
-            }
-            met += 1;
-        }
-    }
-    met == run.follows as usize && met > 0
+    let follows = run.following();
+    let touching = state
+        .looked_at()
+        .filter(|c| c.touches(run.part))
+        .map(|c| c.number);
+    !follows.is_empty() && touching.take(follows.len()).eq(follows.iter().copied())
 }
 
 // The lines on every part and the rejected changes, against serial testing of the arrivals that do not wait.
 pub fn check_decided(
+    heap: Global,
     state: State,
     bench: &HashBench,
     arrivals: &[Change],
 ) -> Result<Option<Difference>, AllocError> {
-    let heap = state.heap;
-    let waiting = state.waiting()?;
-    let taken = without(heap, arrivals, waiting.as_slice())?;
+    let taken = without(heap, arrivals, state.waiting())?;
     let serial = decide_serially(heap, bench, taken.as_slice())?;
-    let landed = state.landed()?;
+    let landed: Vec<Change> = state.landed().collect(heap)?;
     for part in 0..PART_LIMIT {
         let line = line_of(heap, landed.as_slice(), part)?;
         let expected = line_of(heap, serial.landed.as_slice(), part)?;
@@ -185,9 +158,10 @@ pub fn check_decided(
             return Ok(Some(Difference::Line(part)));
         }
     }
-    let rejected = state.rejected()?;
-    let same = same_numbers(heap, rejected.as_slice(), serial.rejected.as_slice())?;
-    Ok(if same {
+    // The queue may reject a later change first.
+    let rejected = sorted(heap, state.rejected().map(|c| c.number))?;
+    let expected = sorted(heap, serial.rejected.iter().map(|c| c.number))?;
+    Ok(if rejected.as_slice() == expected.as_slice() {
         None
     } else {
         Some(Difference::Rejected)
@@ -195,30 +169,19 @@ pub fn check_decided(
 }
 
 // The changes that are not among the others.
-fn without(heap: Global, changes: &[Change], others: &[Change]) -> Result<Vec<Change>, AllocError> {
+fn without(heap: Global, changes: &[Change], others: Changes) -> Result<Vec<Change>, AllocError> {
     changes
         .iter()
-        .filter(|c| !is_numbered(others, c.number))
+        .filter(|c| !others.number_used(c.number))
         .copied()
         .collect(heap)
 }
 
-// Whether one of the changes has the number.
-fn is_numbered(changes: &[Change], number: u64) -> bool
-    ensures { result ≡ numbered number (map change_of changes.now) }
+fn sorted<I: Iterator<Item = u64>>(heap: Global, numbers: I) -> Result<Vec<u64>, AllocError>
+    requires can { I.can_next numbers }
+    requires ends { IsFinite (I.remaining numbers) }
 {
-    changes.iter().any(|c| c.number == number)
-}
-
-// Whether the changes have the same numbers, in whatever order: the queue may reject a later change first.
-fn same_numbers(heap: Global, some: &[Change], others: &[Change]) -> Result<bool, AllocError> {
-    let some = sorted_numbers(heap, some)?;
-    let others = sorted_numbers(heap, others)?;
-    Ok(some.as_slice() == others.as_slice())
-}
-
-fn sorted_numbers(heap: Global, changes: &[Change]) -> Result<Vec<u64>, AllocError> {
-    let mut numbers: Vec<u64> = changes.iter().map(|c| c.number).collect(heap)?;
+    let mut numbers: Vec<u64> = numbers.collect(heap)?;
     numbers.sort()?;
     Ok(numbers)
 }

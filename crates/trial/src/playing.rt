@@ -87,10 +87,7 @@ impl<'a> Day<'a> {
     }
 
     fn state(&self) -> State<'_> {
-        State {
-            heap: self.heap,
-            queue: self.queue,
-        }
+        State { queue: self.queue }
     }
 
     // Plays it to where the queue first differs, or to its end.
@@ -162,7 +159,8 @@ impl<'a> Day<'a> {
 
     // Mostly a change that waits; one in four is any.
     fn withdraw(&mut self) -> Result<(), AllocError> {
-        let waiting = self.state().waiting()?;
+        let heap = self.heap;
+        let waiting: Vec<Change> = self.state().waiting().collect(heap)?;
         let mut number = self.random.below(self.next.max(1));
         if !self.random.once_in(4) {
             number = pick(&mut self.random, waiting.as_slice()).unwrap_or(number);
@@ -199,9 +197,10 @@ impl<'a> Day<'a> {
 
     // What the bench says of the run with these numbers.
     fn judge(&self, row: &[u64; RUN_WIDTH]) -> Result<bool, AllocError> {
-        let landed = self.state().landed()?;
+        let heap = self.heap;
+        let landed: Vec<Change> = self.state().landed().collect(heap)?;
         let run = run::read_run(row);
-        let changes = changes_of(self.heap, landed.as_slice(), run)?;
+        let changes = changes_of(heap, landed.as_slice(), run)?;
         Ok(self.bench.good(run.part, changes.as_slice()))
     }
 
@@ -222,6 +221,11 @@ impl<'a> Day<'a> {
         if difference.is_some() || !decided {
             return Ok(difference);
         }
-        check_decided(self.state(), &self.bench, self.arrivals.as_slice())
+        check_decided(
+            self.heap,
+            self.state(),
+            &self.bench,
+            self.arrivals.as_slice(),
+        )
     }
 }

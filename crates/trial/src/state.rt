@@ -1,55 +1,62 @@
 // What a lent queue says: its changes, and the runs that are running.
-ghost use Rattle.std.specs.Prelude.{◌≡◌, ◌+◌, ◌*◌, ◌<◌, ◌≤◌, min, map, length, drop, IfOk, slice_index};
-ghost use Rattle.change.specs.Records.{change_of, change_width, changes_in};
-ghost use Rattle.run.specs.Layout.{landed_at, landed_count, most_landed, most_rejected, most_running, most_waiting, queue_length, rejected_at, rejected_count, running_count, waiting_at, waiting_count};
-ghost use Rattle.run.specs.Records.{run_of, run_width};
+ghost use Rattle.std.specs.Prelude.{◌≡◌, ◌+◌, ◌*◌, ◌<◌, ◌≤◌, min, map, length, IfOk, slice_index};
+ghost use Rattle.change.specs.Listed.{changes_of as listed};
+ghost use Rattle.change.specs.Records.{change_of, change_width};
+ghost use Rattle.run.specs.Layout.{most_depth, most_running, queue_length, running_count};
+ghost use Rattle.run.specs.Records.{run_of};
+ghost use Rattle.trial.specs.Held.{held, landed_held, looked_at_held, rejected_held, waiting_held};
 
-use change::{CHANGE_WIDTH, Change};
+use change::{Change, Changes};
 use run::{
-    LANDED_AT, LANDED_COUNT, MOST_LANDED, MOST_REJECTED, MOST_RUNNING, MOST_WAITING, QUEUE_LENGTH,
-    REJECTED_AT, REJECTED_COUNT, RUN_WIDTH, RUNNING_AT, RUNNING_COUNT, Run, WAITING_AT,
-    WAITING_COUNT,
+    DEPTH_AT, LANDED_AT, LANDED_COUNT, MOST_DEPTH, MOST_LANDED, MOST_REJECTED, MOST_RUNNING,
+    MOST_WAITING, QUEUE_LENGTH, REJECTED_AT, REJECTED_COUNT, RUN_WIDTH, RUNNING_AT, RUNNING_COUNT,
+    Run, WAITING_AT, WAITING_COUNT,
 };
 use serial::line_of;
 use std::alloc::{AllocError, Global};
 
-// A queue of full length that is lent to be read, and the heap for what is read from it.
+// A queue of full length that is lent to be read.
 #[derive(Clone, Copy)]
 pub struct State<'a> {
-    pub heap: Global,
     pub queue: &'a [u64],
     ghost long: { queue_length ≤ length queue.now },
 }
 
 impl<'a> State<'a> {
-    // The changes of the section that starts at `at`, as many as its count at `count` says, and at most `most`.
-    fn section(self, count: usize, at: usize, most: usize) -> Result<Vec<Change>, AllocError>
+    // The changes of the section that begins at `at`: as many as its count says, and at most so many.
+    fn section(self, count: usize, at: usize, most: usize) -> Changes<'a>
         requires counted { count < queue_length }
         requires within { at + change_width * most ≤ queue_length }
-        ensures { IfOk result (λ v. map change_of v.items ≡ changes_in (min (slice_index self.entry.queue.now count) most) (drop at self.entry.queue.now)) }
+        ensures { listed result ≡ held count at most self.entry.queue.now }
     {
         let n = self.queue[count].min(most as u64) as usize;
-        let mut changes = Vec::new(self.heap);
-        for i in 0..n {
-            changes.push(change::change_at(self.queue, at + CHANGE_WIDTH * i))?;
-        }
-        Ok(changes)
+        Changes::at(self.queue, at, n)
     }
 
-    pub fn landed(self) -> Result<Vec<Change>, AllocError>
-        ensures { IfOk result (λ v. map change_of v.items ≡ changes_in (min (slice_index self.entry.queue.now landed_count) most_landed) (drop landed_at self.entry.queue.now)) }
+    pub fn landed(self) -> Changes<'a>
+        ensures { listed result ≡ landed_held self.entry.queue.now }
     {
         self.section(LANDED_COUNT, LANDED_AT, MOST_LANDED)
     }
 
-    pub fn waiting(self) -> Result<Vec<Change>, AllocError>
-        ensures { IfOk result (λ v. map change_of v.items ≡ changes_in (min (slice_index self.entry.queue.now waiting_count) most_waiting) (drop waiting_at self.entry.queue.now)) }
+    pub fn waiting(self) -> Changes<'a>
+        ensures { listed result ≡ waiting_held self.entry.queue.now }
     {
         self.section(WAITING_COUNT, WAITING_AT, MOST_WAITING)
     }
 
-    pub fn rejected(self) -> Result<Vec<Change>, AllocError>
-        ensures { IfOk result (λ v. map change_of v.items ≡ changes_in (min (slice_index self.entry.queue.now rejected_count) most_rejected) (drop rejected_at self.entry.queue.now)) }
+    // Those that wait and are looked at.
+    pub fn looked_at(self) -> Changes<'a>
+        ensures few { length (listed result) ≤ most_depth }
+        ensures value { listed result ≡ looked_at_held self.entry.queue.now }
+    {
+        let depth = self.queue[DEPTH_AT];
+        let n = self.queue[WAITING_COUNT].min(depth).min(MOST_DEPTH);
+        Changes::at(self.queue, WAITING_AT, n as usize)
+    }
+
+    pub fn rejected(self) -> Changes<'a>
+        ensures { listed result ≡ rejected_held self.entry.queue.now }
     {
         self.section(REJECTED_COUNT, REJECTED_AT, MOST_REJECTED)
     }
@@ -70,6 +77,6 @@ pub fn changes_of(heap: Global, landed: &[Change], r: Run) -> Result<Vec<u64>, A
 {
     let mut numbers = line_of(heap, landed, r.part)?;
     numbers.truncate(r.begins as usize);
-    numbers.extend_from_slice(&r.numbers[..r.follows as usize])?;
+    numbers.extend_from_slice(r.following())?;
     Ok(numbers)
 }
