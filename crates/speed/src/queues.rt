@@ -91,8 +91,5 @@ pub fn keep(into: &mut [u64], from: &[u64]) {
 }
 
 fn done(reply: Reply) -> u64 {
-    match reply {
-        Reply::Done(_) => 1,
-        Reply::Refused(_) => 0,
-    }
+    u64::from(reply.is_ok())
 }

@@ -9,7 +9,7 @@ use super::shape::Shape;
 use super::state::{State, changes_of};
 use super::tally::Counts;
 use change::Change;
-use queue::Reply;
+use queue::{Kind, Reply};
 use run::{LANDED_COUNT, MOST_BENCHES, MOST_DEPTH, REJECTED_COUNT, RUN_WIDTH, WAITING_COUNT};
 use serial::Bench;
 use std::alloc::{AllocError, Global};
@@ -122,13 +122,10 @@ impl<'a> Day<'a> {
     // Counts the event, and says whether it was taken.
     fn took(&mut self, reply: Reply) -> bool {
         self.counts.events = self.counts.events.saturating_add(1);
-        match reply {
-            Reply::Done(_) => true,
-            Reply::Refused(_) => {
-                self.counts.refused = self.counts.refused.saturating_add(1);
-                false
-            }
+        if reply.is_err() {
+            self.counts.refused = self.counts.refused.saturating_add(1);
         }
+        reply.is_ok()
     }
 
     // Mostly a change of a new number; one in twelve has an old one.
@@ -150,7 +147,7 @@ impl<'a> Day<'a> {
 
     // In a day file numbers of changes are four bytes, low byte first, and parts are a byte each.
     fn write_submission(&mut self, c: Change) -> Result<(), AllocError> {
-        self.file.push(0)?;
+        self.file.push(Kind::Submit.into())?;
         self.file.extend_from_slice(&c.number.to_le_bytes()[..4])?;
         self.file.push((c.count & 0xff) as u8)?;
         self.file
@@ -165,7 +162,7 @@ impl<'a> Day<'a> {
         if !self.random.once_in(4) {
             number = pick(&mut self.random, waiting.as_slice()).unwrap_or(number);
         }
-        self.file.push(1)?;
+        self.file.push(Kind::Withdraw.into())?;
         self.file.extend_from_slice(&number.to_le_bytes()[..4])?;
         let reply = queue::withdraw(self.queue, number);
         if self.took(reply) {
@@ -187,7 +184,7 @@ impl<'a> Day<'a> {
             Some(row) => self.judge(row)?,
             None => true,
         };
-        self.file.push(2)?;
+        self.file.push(Kind::Report.into())?;
         self.file.push((place & 0xff) as u8)?;
         self.file.push(u8::from(good))?;
         let reply = queue::report(self.queue, place as u64, good);
