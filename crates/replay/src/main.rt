@@ -2,9 +2,11 @@
 #![tactic(auto)]
 
 mod printer;
+mod problem;
 
 use day::{NotPlayed, UNLIMITED_CHANGES, USUAL_CHANGES};
 use printer::Printer;
+use problem::Problem;
 use std::io::Read;
 use std::process::ExitCode;
 use std::{env, fmt, fs};
@@ -25,22 +27,19 @@ Example: replay tests/days/worked.day";
 // The option that lifts a day's limit.
 const LONG: &str = "--long";
 
-// The program ends with status 1; a message on standard error says why.
-#[derive(Clone, Copy)]
-struct Failed;
-
+// It answers a status: the runtime would print an error in another form.
 fn main(rt: HostRuntime) -> ExitCode {
     match run(&rt) {
         Ok(()) => ExitCode::SUCCESS,
-        Err(Failed) => ExitCode::FAILURE,
+        Err(problem) => {
+            let _ = eprintln!(rt; "replay: {problem}");
+            ExitCode::FAILURE
+        }
     }
 }
 
-fn run(rt: &HostRuntime) -> Result<(), Failed> {
-    let Ok(args) = env::args(rt) else {
-        return Err(complain(rt, "cannot read the arguments"));
-    };
-    let mut args = args.skip(1);
+fn run(rt: &HostRuntime) -> Result<(), Problem> {
+    let mut args = env::args(rt).map_err(|_| Problem::Arguments)?.skip(1);
     let Some(first) = args.next() else {
         return play_input(rt, USUAL_CHANGES);
     };
@@ -48,57 +47,46 @@ fn run(rt: &HostRuntime) -> Result<(), Failed> {
     let more = args.next().is_some();
     let long = first.as_str() == LONG;
     if more || !long && second.is_some() {
-        return Err(complain(rt, "more than one file; see --help"));
+        return Err(Problem::ManyFiles);
     }
     if !long {
-        return play_file(rt, USUAL_CHANGES, first.as_str());
+        return play_file(rt, USUAL_CHANGES, first);
     }
     match second {
-        Some(file) => play_file(rt, UNLIMITED_CHANGES, file.as_str()),
+        Some(file) => play_file(rt, UNLIMITED_CHANGES, file),
         None => play_input(rt, UNLIMITED_CHANGES),
     }
 }
 
-fn play_input(rt: &HostRuntime, most: u64) -> Result<(), Failed> {
+fn play_input(rt: &HostRuntime, most: u64) -> Result<(), Problem> {
     let mut bytes = Vec::new(rt.alloc());
-    match rt.stdin().read_to_end(&mut bytes) {
-        Ok(_) => play(rt, most, &bytes),
-        Err(e) => Err(complain(rt, format_args!("cannot read standard input: {e}"))),
-    }
+    rt.stdin()
+        .read_to_end(&mut bytes)
+        .map_err(Problem::InputUnread)?;
+    play(rt, most, &bytes)
 }
 
-fn play_file(rt: &HostRuntime, most: u64, arg: &str) -> Result<(), Failed> {
-    if arg == "--help" {
+fn play_file(rt: &HostRuntime, most: u64, file: String) -> Result<(), Problem> {
+    if file.as_str() == "--help" {
         let _ = rt.println(HELP);
         return Ok(());
     }
-    if arg.starts_with("-") {
-        return Err(complain(rt, format_args!("unknown option {arg}; see --help")));
+    if file.as_str().starts_with("-") {
+        return Err(Problem::UnknownOption(file));
     }
-    match fs::read(rt, arg) {
-        Ok(bytes) => play(rt, most, &bytes),
-        Err(e) => Err(complain(rt, format_args!("cannot read {arg}: {e}"))),
-    }
+    let bytes = fs::read(rt, file.as_str()).map_err(|e| Problem::FileUnread(file, e))?;
+    play(rt, most, &bytes)
 }
 
-// What was printed before a failure stays printed.
-fn play(rt: &HostRuntime, most: u64, bytes: &[u8]) -> Result<(), Failed> {
-    let Ok(printer) = Printer::new(rt) else {
-        return Err(complain(rt, "no memory for the output"));
-    };
+// What was printed before a problem stays printed.
+fn play(rt: &HostRuntime, most: u64, bytes: &[u8]) -> Result<(), Problem> {
+    let printer = Printer::new(rt).map_err(|_| Problem::NoBuffer)?;
     let mut f = fmt::Formatter::new(printer);
     let played = day::play(&mut f, rt.alloc(), most, bytes);
-    let written = f.into_inner().finish();
-    if let Err(e) = written {
-        return Err(complain(rt, format_args!("cannot write the output: {e}")));
-    }
+    f.into_inner().finish().map_err(Problem::Unwritten)?;
     match played {
-        Err(NotPlayed::Memory) => Err(complain(rt, "no memory for the day")),
-        _ => Ok(()),
+        Err(NotPlayed::Memory) => Err(Problem::NoMemory),
+        // What the formatter could not write, the printer has kept the error of.
+        Ok(()) | Err(NotPlayed::Output) => Ok(()),
     }
-}
-
-fn complain(rt: &HostRuntime, why: impl fmt::Display + Drop) -> Failed {
-    let _ = eprintln!(rt; "replay: {why}");
-    Failed
 }

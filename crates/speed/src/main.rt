@@ -4,7 +4,7 @@
 mod queues;
 
 use queues::*;
-use run::QUEUE_LENGTH;
+use run::{LANDED_COUNT, QUEUE_LENGTH, RUNNING_COUNT, VERDICTS_COUNT, WAITING_COUNT};
 use std::time::{Duration, Instant};
 use std::{env, io};
 
@@ -18,83 +18,79 @@ const TURNS: usize = 1000;
 
 fn main(rt: HostRuntime) -> io::Result<()> {
     let mut args = env::args(&rt)?.skip(1);
-    let Some(first) = args.next() else {
-        return rt.println(HELP);
-    };
-    if first.as_str() != "--run" {
-        return rt.println(HELP);
+    if args.next().is_some_and(|arg| arg.as_str() == "--run") {
+        measure(&rt)
+    } else {
+        rt.println(HELP)
     }
-    measure(&rt)
+}
+
+// Where what is measured is printed, and what it is measured in: the nanoseconds of all the sweeps together.
+#[derive(Clone, Copy)]
+struct Scale<'a> {
+    rt: &'a HostRuntime,
+    sweeps: u64,
 }
 
 fn measure(rt: &HostRuntime) -> io::Result<()> {
     let mut queue = vec![in rt.alloc(); 0; QUEUE_LENGTH]?;
     let mut saved = vec![in rt.alloc(); 0; QUEUE_LENGTH]?;
     fill(&mut queue);
-    let start = Instant::now(rt)?;
-    let total = sweeps(&queue, TURNS);
-    let sweep = nanos(start.elapsed(rt)?);
-    println!(rt; "a sweep: {} us (sum {total})", sweep / 1000 / TURNS as u64)?;
+    let (total, sweeps) = timed(rt, || sweeps(&queue, TURNS))?;
+    println!(rt;
+        "a sweep: {} us (sum {total})",
+        sweeps / 1000 / TURNS as u64
+    )?;
+    let scale = Scale { rt, sweeps };
     empty(&mut saved);
-    report_pairs(rt, "empty queue", &mut saved, sweep)?;
-    let held = shape(&queue);
+    scale.pairs("empty queue", &mut saved)?;
     println!(rt;
         "the full queue: {} landed, {} waiting, {} verdicts, {} running",
-        held.landed, held.waiting, held.verdicts, held.running
+        queue[LANDED_COUNT], queue[WAITING_COUNT], queue[VERDICTS_COUNT], queue[RUNNING_COUNT]
     )?;
-    report_pairs(rt, "full queue", &mut queue, sweep)?;
-    report_reports(rt, &mut queue, &mut saved, sweep)
+    scale.pairs("full queue", &mut queue)?;
+    scale.reports(&mut queue, &mut saved)
 }
 
-// Submissions and withdrawals in turn, so that the queue stays as it is.
-fn report_pairs(rt: &HostRuntime, name: &str, queue: &mut [u64], sweep: u64) -> io::Result<()> {
+// What the function gives, and how many nanoseconds it takes.
+fn timed<T: Drop, F: FnOnce() -> T>(rt: &HostRuntime, f: F) -> io::Result<(T, u64)>
+    requires { F.IsAlwaysCallable f }
+{
     let start = Instant::now(rt)?;
-    let taken = pairs(queue, TURNS);
-    let spent = nanos(start.elapsed(rt)?);
-    line(rt, name, "submit or withdraw", taken, spent, sweep)
+    let done = f();
+    Ok((done, nanos(start.elapsed(rt)?)))
 }
 
-// Reports, each on the queue as it was; what copying it back costs is taken off.
-fn report_reports(
-    rt: &HostRuntime,
-    queue: &mut [u64],
-    saved: &mut [u64],
-    sweep: u64,
-) -> io::Result<()> {
-    keep(saved, queue);
-    let start = Instant::now(rt)?;
-    copies(queue, saved, TURNS);
-    let copying = nanos(start.elapsed(rt)?);
-    for (name, place) in [("report on the first", 0), ("report on the last", 7)] {
-        let start = Instant::now(rt)?;
-        let taken = reports(queue, saved, TURNS, place);
-        let spent = nanos(start.elapsed(rt)?).saturating_sub(copying);
-        line(rt, "full queue", name, taken, spent, sweep)?;
+impl Scale<'_> {
+    // Submissions and withdrawals in turn, so that the queue stays as it is.
+    fn pairs(self, name: &str, queue: &mut [u64]) -> io::Result<()> {
+        let (taken, spent) = timed(self.rt, || pairs(queue, TURNS))?;
+        self.line(name, "submit or withdraw", taken, spent)
     }
-    Ok(())
-}
 
-fn line(
-    rt: &HostRuntime,
-    name: &str,
-    what: &str,
-    taken: u64,
-    spent: u64,
-    sweep: u64,
-) -> io::Result<()> {
-    let events = taken.max(1);
-    let each = spent / events;
-    let tenths = each.saturating_mul(10 * TURNS as u64) / sweep.max(1);
-    println!(rt;
-        "{name}, {what}: {taken} taken, {} us each, {}.{} sweeps",
-        each / 1000,
-        tenths / 10,
-        tenths % 10
-    )
+    // Reports, each on the queue as it was; what copying it back costs is taken off.
+    fn reports(self, queue: &mut [u64], saved: &mut [u64]) -> io::Result<()> {
+        keep(saved, queue);
+        let ((), copying) = timed(self.rt, || copies(queue, saved, TURNS))?;
+        for (name, place) in [("report on the first", 0), ("report on the last", 7)] {
+            let (taken, spent) = timed(self.rt, || reports(queue, saved, TURNS, place))?;
+            self.line("full queue", name, taken, spent.saturating_sub(copying))?;
+        }
+        Ok(())
+    }
+
+    fn line(self, name: &str, what: &str, taken: u64, spent: u64) -> io::Result<()> {
+        let each = spent / taken.max(1);
+        let tenths = each.saturating_mul(10 * TURNS as u64) / self.sweeps.max(1);
+        println!(self.rt;
+            "{name}, {what}: {taken} taken, {} us each, {}.{} sweeps",
+            each / 1000,
+            tenths / 10,
+            tenths % 10
+        )
+    }
 }
 
 fn nanos(d: Duration) -> u64 {
-    d.as_secs()
-        .saturating_mul(1_000_000_000)
-        .saturating_add(u64::from(d.subsec_nanos()))
+    u64::try_from(d.as_nanos()).unwrap_or(u64::MAX)
 }

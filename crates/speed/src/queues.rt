@@ -41,28 +41,6 @@ fn broad(number: u64) -> Change {
     }
 }
 
-// How much of it there is: landed, waiting, verdicts, running.
-pub fn shape(queue: &[u64]) -> Counts {
-    Counts {
-        landed: number_at(queue, LANDED_COUNT),
-        waiting: number_at(queue, WAITING_COUNT),
-        verdicts: number_at(queue, VERDICTS_COUNT),
-        running: number_at(queue, RUNNING_COUNT),
-    }
-}
-
-fn number_at(queue: &[u64], at: usize) -> u64 {
-    if at < queue.len() { queue[at] } else { 0 }
-}
-
-#[derive(Clone, Copy)]
-pub struct Counts {
-    pub landed: u64,
-    pub waiting: u64,
-    pub verdicts: u64,
-    pub running: u64,
-}
-
 // All its numbers added up, so many times.
 pub fn sweeps(queue: &[u64], turns: usize) -> u64 {
     let mut total = 0u64;
@@ -113,8 +91,5 @@ pub fn keep(into: &mut [u64], from: &[u64]) {
 }
 
 fn done(reply: Reply) -> u64 {
-    match reply {
-        Reply::Done(_) => 1,
-        Reply::Refused(_) => 0,
-    }
+    u64::from(reply.is_ok())
 }

@@ -1,1 +1,2 @@
 pub mod Hash
+pub mod Held

@@ -15,10 +15,9 @@ impl Bench for HashBench {
     ghost says = { λ b. hash_says b.seed b.bad };
 
     fn good(&self, part: u64, changes: &[u64]) -> bool {
-        let mut hash = mix(self.seed, part);
-        for number in changes {
-            hash = mix(hash, *number);
-        }
+        let hash = changes
+            .iter()
+            .fold(mix(self.seed, part), |hash, number| mix(hash, *number));
         self.bad <= hash >> 56
     }
 }

@@ -1,16 +1,16 @@
 // Holds the queue's state against serial testing, and against what it promises of the runs that are running.
-ghost use Rattle.std.specs.Prelude.{◌≡◌, ◌<◌, ◌≤◌, min, map, length, drop, slice_index};
-ghost use Rattle.change.specs.Change.{line, numbered};
-ghost use Rattle.change.specs.Records.{change_of, changes_in};
-ghost use Rattle.run.specs.Layout.{landed_at, landed_count, most_landed, most_running, queue_length};
+ghost use Rattle.std.specs.Prelude.{◌≡◌, ◌<◌, length};
+ghost use Rattle.std.specs.Iterator.{IsFinite};
+ghost use Rattle.change.specs.Change.{line};
 ghost use Rattle.run.specs.Limits.{most_following};
+ghost use Rattle.trial.specs.Held.{landed_held};
 
 use super::bench::HashBench;
-use super::state;
-use change::{CHANGE_WIDTH, Change, PART_LIMIT};
+use super::state::State;
+use change::{Change, Changes, PART_LIMIT, Record};
 use run::{
-    BENCHES_AT, DEPTH_AT, Known, LANDED_AT, LANDED_COUNT, MOST_DEPTH, MOST_FOLLOWING, MOST_LANDED,
-    MOST_VERDICTS, MOST_WAITING, RUN_WIDTH, Run, VERDICTS_COUNT, WAITING_AT, WAITING_COUNT,
+    BENCHES_AT, Known, LANDED_COUNT, MOST_LANDED, MOST_VERDICTS, RUN_WIDTH, Run, VERDICTS_COUNT,
+    WAITING_AT, WAITING_COUNT,
 };
 use serial::{decide_serially, line_of};
 use std::alloc::{AllocError, Global};
@@ -58,39 +58,35 @@ impl fmt::Display for Difference {
 }
 
 // Never idle, only useful runs, and fully booked.
-pub fn check_running(queue: &[u64]) -> Option<Difference>
-    requires { queue_length ≤ length queue.now }
-{
-    let running = state::running_count(queue);
-    if running == 0 && queue[WAITING_COUNT] > 0 {
+pub fn check_running(state: State) -> Option<Difference> {
+    let running = state.running();
+    if running.is_empty() && state.queue[WAITING_COUNT] > 0 {
         return Some(Difference::Idle);
     }
-    if running as u64 > queue[BENCHES_AT] {
+    let benches = state.queue[BENCHES_AT];
+    if running.len() as u64 > benches {
         return Some(Difference::Crowded);
     }
-    for place in 0..running {
-        if runs_before(queue, place) {
+    for (place, row) in running.iter().enumerate() {
+        // All begin with their part's whole line, so equal runs have equal numbers.
+        if running[..place].contains(row) {
             return Some(Difference::Twice);
         }
-        if !is_useful(queue, place) {
+        if !is_useful(state, run::read_run(row)) {
             return Some(Difference::Useless);
         }
     }
-    if (running as u64) < queue[BENCHES_AT] && !all_booked(queue) {
+    if (running.len() as u64) < benches && !all_booked(state) {
         return Some(Difference::Unbooked);
     }
     None
 }
 
 // Whether every useful run is running or known.
-fn all_booked(queue: &[u64]) -> bool
-    requires { queue_length ≤ length queue.now }
-{
-    let looked = queue[WAITING_COUNT].min(queue[DEPTH_AT]).min(MOST_DEPTH);
-    for i in 0..looked as usize {
-        let c = change::change_at(queue, WAITING_AT + CHANGE_WIDTH * i);
-        for p in 0..c.count as usize {
-            if !is_booked(queue, useful_run(queue, i, c.parts[p], c.number)) {
+fn all_booked(state: State) -> bool {
+    for (i, c) in state.looked_at().enumerate() {
+        for part in c.touched() {
+            if !is_booked(state, useful_run(state, i, *part, c.number)) {
                 return false;
             }
         }
@@ -99,112 +95,62 @@ fn all_booked(queue: &[u64]) -> bool
 }
 
 // The run of the part with all that has landed, the first n that wait, and then the change of this number.
-// Put together here anew, so that a fault in how the queue does it is seen.
-fn useful_run(queue: &[u64], n: usize, part: u64, number: u64) -> Run
-    requires long { queue_length ≤ length queue.now }
-    requires near { n < most_following }
-    ensures { result.begins ≡ length (line result.part (changes_in (min (slice_index queue.now landed_count) most_landed) (drop landed_at queue.now))) }
+// Put together here anew, and not by the queue's own function for it, so that a fault in that is seen.
+fn useful_run(state: State, n: usize, part: u64, number: u64) -> Run
+    requires { n < most_following }
+    ensures { result.begins ≡ length (line result.part (landed_held state.entry.queue.now)) }
 {
-    let landed = queue[LANDED_COUNT].min(MOST_LANDED as u64) as usize;
-    let begins = change::count_touching(queue, LANDED_AT, landed, part);
-    let mut numbers = [0u64; MOST_FOLLOWING];
-    let mut follows = 0usize;
-    for i in 0..n {
-        let c = change::change_at(queue, WAITING_AT + CHANGE_WIDTH * i);
+    let mut run = Run::of_landed(part, state.landed().count_touching(part));
+    for c in Changes::at(state.queue, WAITING_AT, n) {
         if c.touches(part) {
-            numbers[follows] = c.number;
-            follows += 1;
+            run.push(c.number);
         }
     }
-    numbers[follows] = number;
-    Run {
-        part,
-        begins,
-        follows: follows as u64 + 1,
-        numbers,
-    }
+    run.push(number);
+    run
 }
 
 // Whether the run, which begins with its part's whole line, is running or known.
-fn is_booked(queue: &[u64], run: Run) -> bool
-    requires long { queue_length ≤ length queue.now }
-    requires all { run.begins ≡ length (line run.part (changes_in (min (slice_index queue.now landed_count) most_landed) (drop landed_at queue.now))) }
+fn is_booked(state: State, run: Run) -> bool
+    requires { run.begins ≡ length (line run.part (landed_held state.queue.now)) }
 {
     let mut row = [0u64; RUN_WIDTH];
-    run::write_run(&mut row, run);
-    for place in 0..state::running_count(queue) {
-        if state::running_row(queue, place) == row.as_slice() {
-            return true;
-        }
+    run.write(&mut row);
+    if state.running().contains(&row) {
+        return true;
     }
+    let queue = state.queue;
     let landed = queue[LANDED_COUNT].min(MOST_LANDED as u64) as usize;
     let verdicts = queue[VERDICTS_COUNT].min(MOST_VERDICTS as u64) as usize;
-    match run.known(queue, landed, verdicts) {
-        Known::Nothing => false,
-        Known::Good | Known::Bad => true,
-    }
+    run.known(queue, landed, verdicts) != Known::Nothing
 }
 
-// Whether the run at this place stands at an earlier one too: all begin with their part's whole line, so equal runs have equal numbers.
-fn runs_before(queue: &[u64], place: usize) -> bool
-    requires long { queue_length ≤ length queue.now }
-    requires there { place < most_running }
-{
-    for earlier in 0..place {
-        if state::running_row(queue, earlier) == state::running_row(queue, place) {
-            return true;
-        }
-    }
-    false
-}
-
-// Whether the run at this place is its part's whole landed line, and then the first of those that wait and touch the part,
+// Whether the run is its part's whole landed line, and then the first of those that wait and touch the part,
 // the last of them among the changes looked at.
-fn is_useful(queue: &[u64], place: usize) -> bool
-    requires long { queue_length ≤ length queue.now }
-    requires there { place < most_running }
-{
-    let run = run::read_run(state::running_row(queue, place));
-    let landed = queue[LANDED_COUNT].min(MOST_LANDED as u64) as usize;
-    if run.begins != change::count_touching(queue, LANDED_AT, landed, run.part) {
-        return false;
-    }
-    follows_waiting(queue, run)
+fn is_useful(state: State, run: Run) -> bool {
+    run.begins == state.landed().count_touching(run.part) && follows_waiting(state, run)
 }
 
 // Whether the changes that follow in the run are the first of those looked at that touch its part.
-fn follows_waiting(queue: &[u64], run: Run) -> bool
-    requires { queue_length ≤ length queue.now }
-{
-    let looked = queue[WAITING_COUNT]
-        .min(queue[DEPTH_AT])
-        .min(MOST_WAITING as u64);
-    let mut met = 0usize;
-    for i in 0..looked as usize {
-        let c = change::change_at(queue, WAITING_AT + CHANGE_WIDTH * i);
-        if c.touches(run.part) {
-            if met >= run.follows as usize || run.numbers[met] != c.number {
-                return met == run.follows as usize && met > 0;
-            }
-            met += 1;
-        }
-    }
-    met == run.follows as usize && met > 0
+fn follows_waiting(state: State, run: Run) -> bool {
+    let follows = run.following();
+    let touching = state
+        .looked_at()
+        .filter(|c| c.touches(run.part))
+        .map(|c| c.number);
+    !follows.is_empty() && touching.take(follows.len()).eq(follows.iter().copied())
 }
 
 // The lines on every part and the rejected changes, against serial testing of the arrivals that do not wait.
 pub fn check_decided(
     heap: Global,
-    queue: &[u64],
+    state: State,
     bench: &HashBench,
     arrivals: &[Change],
-) -> Result<Option<Difference>, AllocError>
-    requires { queue_length ≤ length queue.now }
-{
-    let waiting = state::waiting(heap, queue)?;
-    let taken = without(heap, arrivals, waiting.as_slice())?;
+) -> Result<Option<Difference>, AllocError> {
+    let taken = without(heap, arrivals, state.waiting())?;
     let serial = decide_serially(heap, bench, taken.as_slice())?;
-    let landed = state::landed(heap, queue)?;
+    let landed: Vec<Change> = state.landed().collect(heap)?;
     for part in 0..PART_LIMIT {
         let line = line_of(heap, landed.as_slice(), part)?;
         let expected = line_of(heap, serial.landed.as_slice(), part)?;
@@ -212,49 +158,30 @@ pub fn check_decided(
             return Ok(Some(Difference::Line(part)));
         }
     }
-    let rejected = state::rejected(heap, queue)?;
-    if same_numbers(heap, rejected.as_slice(), serial.rejected.as_slice())? {
-        Ok(None)
+    // The queue may reject a later change first.
+    let rejected = sorted(heap, state.rejected().map(|c| c.number))?;
+    let expected = sorted(heap, serial.rejected.iter().map(|c| c.number))?;
+    Ok(if rejected.as_slice() == expected.as_slice() {
+        None
     } else {
-        Ok(Some(Difference::Rejected))
-    }
+        Some(Difference::Rejected)
+    })
 }
 
 // The changes that are not among the others.
-fn without(heap: Global, changes: &[Change], others: &[Change]) -> Result<Vec<Change>, AllocError> {
-    let mut kept = Vec::new(heap);
-    for c in changes {
-        if !is_numbered(others, c.number) {
-            kept.push(*c)?;
-        }
-    }
-    Ok(kept)
+fn without(heap: Global, changes: &[Change], others: Changes) -> Result<Vec<Change>, AllocError> {
+    changes
+        .iter()
+        .filter(|c| !others.number_used(c.number))
+        .copied()
+        .collect(heap)
 }
 
-// Whether one of the changes has the number.
-fn is_numbered(changes: &[Change], number: u64) -> bool
-    ensures { result ≡ numbered number (map change_of changes.now) }
+fn sorted<I: Iterator<Item = u64>>(heap: Global, numbers: I) -> Result<Vec<u64>, AllocError>
+    requires can { I.can_next numbers }
+    requires ends { IsFinite (I.remaining numbers) }
 {
-    for c in changes {
-        if c.number == number {
-            return true;
-        }
-    }
-    false
-}
-
-// Whether the changes have the same numbers, in whatever order: the queue may reject a later change first.
-fn same_numbers(heap: Global, some: &[Change], others: &[Change]) -> Result<bool, AllocError> {
-    let some = sorted_numbers(heap, some)?;
-    let others = sorted_numbers(heap, others)?;
-    Ok(some.as_slice() == others.as_slice())
-}
-
-fn sorted_numbers(heap: Global, changes: &[Change]) -> Result<Vec<u64>, AllocError> {
-    let mut numbers = Vec::new(heap);
-    for c in changes {
-        numbers.push(c.number)?;
-    }
+    let mut numbers: Vec<u64> = numbers.collect(heap)?;
     numbers.sort()?;
     Ok(numbers)
 }

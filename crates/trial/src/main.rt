@@ -4,6 +4,7 @@
 mod bench;
 mod compare;
 mod playing;
+mod problem;
 mod random;
 mod shape;
 mod state;
@@ -11,10 +12,11 @@ mod tally;
 
 use compare::Difference;
 use playing::play;
+use problem::Problem;
 use random::Random;
 use run::QUEUE_LENGTH;
+use std::env;
 use std::process::ExitCode;
-use std::{env, fmt};
 use tally::Tally;
 
 const HELP: &str = "Usage: trial [SEED [DAYS]]
@@ -32,78 +34,63 @@ const SEED: u64 = 1;
 
 const DAYS: u64 = 2000;
 
-// The program ends with status 1; what was printed says why.
-#[derive(Clone, Copy)]
-struct Failed;
-
+// It answers a status: the runtime would print an error in another form.
 fn main(rt: HostRuntime) -> ExitCode {
     match run(&rt) {
-        Ok(()) => ExitCode::SUCCESS,
-        Err(Failed) => ExitCode::FAILURE,
+        Ok(status) => status,
+        Err(problem) => {
+            let _ = eprintln!(rt; "trial: {problem}");
+            ExitCode::FAILURE
+        }
     }
 }
 
-fn run(rt: &HostRuntime) -> Result<(), Failed> {
-    let Ok(args) = env::args(rt) else {
-        return Err(complain(rt, "cannot read the arguments"));
-    };
-    let mut args = args.skip(1);
+fn run(rt: &HostRuntime) -> Result<ExitCode, Problem> {
+    let mut args = env::args(rt).map_err(|_| Problem::Arguments)?.skip(1);
     let first = args.next();
-    if let Some(arg) = &first {
-        if arg.as_str() == "--help" {
-            let _ = rt.println(HELP);
-            return Ok(());
-        }
+    if first.as_ref().is_some_and(|arg| arg.as_str() == "--help") {
+        let _ = rt.println(HELP);
+        return Ok(ExitCode::SUCCESS);
     }
-    let seed = number_or(rt, first, SEED)?;
-    let days = number_or(rt, args.next(), DAYS)?;
+    let seed = number_or(first, SEED)?;
+    let days = number_or(args.next(), DAYS)?;
     if args.next().is_some() {
-        return Err(complain(rt, "more than two arguments; see --help"));
+        return Err(Problem::ManyArguments);
     }
     play_days(rt, seed, days)
 }
 
-fn number_or(rt: &HostRuntime, arg: Option<String>, default: u64) -> Result<u64, Failed> {
+fn number_or(arg: Option<String>, default: u64) -> Result<u64, Problem> {
     let Some(text) = arg else {
         return Ok(default);
     };
-    match text.as_str().parse::<u64>() {
-        Ok(n) => Ok(n),
-        Err(_) => Err(complain(rt, format_args!("no number: {text}; see --help"))),
-    }
+    text.as_str()
+        .parse::<u64>()
+        .map_err(|_| Problem::NoNumber(text))
 }
 
-fn play_days(rt: &HostRuntime, seed: u64, days: u64) -> Result<(), Failed> {
-    let Ok(mut queue) = vec![in rt.alloc(); 0; QUEUE_LENGTH] else {
-        return Err(complain(rt, "no memory for a queue"));
-    };
+fn play_days(rt: &HostRuntime, seed: u64, days: u64) -> Result<ExitCode, Problem> {
+    let mut queue = vec![in rt.alloc(); 0; QUEUE_LENGTH].map_err(|_| Problem::NoQueue)?;
     let mut random = Random::new(seed);
-    let mut tally = Tally::none();
+    let mut tally = Tally::default();
     for number in 0..days {
-        let Ok(day) = play(rt.alloc(), &mut queue, random.draw()) else {
-            return Err(complain(rt, "no memory for a day"));
-        };
+        let day = play(rt.alloc(), &mut queue, random.draw()).map_err(|_| Problem::NoDay)?;
         if let Some(difference) = day.difference {
-            return Err(show(rt, number, difference, day.file.as_slice()));
+            show(rt, number, difference, day.file.as_slice());
+            return Ok(ExitCode::FAILURE);
         }
-        tally.add(&day);
+        tally.add(day.counts);
     }
     let _ = println!(rt; "{tally}");
     let _ = println!(rt; "all agree");
-    Ok(())
+    Ok(ExitCode::SUCCESS)
 }
 
 // The day that differs, so that it can be played again by replay.
-fn show(rt: &HostRuntime, number: u64, difference: Difference, file: &[u8]) -> Failed {
+fn show(rt: &HostRuntime, number: u64, difference: Difference, file: &[u8]) {
     let _ = println!(rt; "day {number}: {difference}");
     for byte in file {
         let _ = print!(rt; "{byte:02x}");
     }
     let _ = println!(rt; "");
-    Failed
-}
-
-fn complain(rt: &HostRuntime, why: impl fmt::Display + Drop) -> Failed {
-    let _ = eprintln!(rt; "trial: {why}");
-    Failed
 }

@@ -46,8 +46,8 @@ impl Shape {
         let step = 1 + random.below(self.parts.max(2) - 1);
         let mut part = random.below(self.parts);
         let mut parts = [0; MOST_PARTS];
-        for i in 0..MOST_PARTS {
-            parts[i] = part;
+        for each in &mut parts {
+            *each = part;
             part = (part + step) % self.parts;
         }
         parts

@@ -1,74 +1,74 @@
-// What the lent queue says: its changes, and the runs that are running.
-ghost use Rattle.std.specs.Prelude.{◌≡◌, ◌+◌, ◌*◌, ◌<◌, ◌≤◌, min, map, length, drop, IfOk, slice_index};
-ghost use Rattle.change.specs.Records.{change_of, change_width, changes_in};
-ghost use Rattle.run.specs.Layout.{landed_at, landed_count, most_landed, most_rejected, most_running, most_waiting, queue_length, rejected_at, rejected_count, running_count, waiting_at, waiting_count};
-ghost use Rattle.run.specs.Records.{run_of, run_width};
+// What a lent queue says: its changes, and the runs that are running.
+ghost use Rattle.std.specs.Prelude.{◌≡◌, ◌+◌, ◌*◌, ◌<◌, ◌≤◌, min, map, length, IfOk, slice_index};
+ghost use Rattle.change.specs.Listed.{changes_of as listed};
+ghost use Rattle.change.specs.Records.{change_of, change_width};
+ghost use Rattle.run.specs.Layout.{most_depth, most_running, queue_length, running_count};
+ghost use Rattle.run.specs.Records.{run_of};
+ghost use Rattle.trial.specs.Held.{held, landed_held, looked_at_held, rejected_held, waiting_held};
 
-use change::{CHANGE_WIDTH, Change};
+use change::{Change, Changes};
 use run::{
-    LANDED_AT, LANDED_COUNT, MOST_LANDED, MOST_REJECTED, MOST_RUNNING, MOST_WAITING, REJECTED_AT,
-    REJECTED_COUNT, RUN_WIDTH, RUNNING_AT, RUNNING_COUNT, Run, WAITING_AT, WAITING_COUNT,
+    DEPTH_AT, LANDED_AT, LANDED_COUNT, MOST_DEPTH, MOST_LANDED, MOST_REJECTED, MOST_RUNNING,
+    MOST_WAITING, QUEUE_LENGTH, REJECTED_AT, REJECTED_COUNT, RUN_WIDTH, RUNNING_AT, RUNNING_COUNT,
+    Run, WAITING_AT, WAITING_COUNT,
 };
 use serial::line_of;
 use std::alloc::{AllocError, Global};
 
-// The changes of a section.
-fn changes_in(
-    heap: Global,
-    queue: &[u64],
-    at: usize,
-    count: usize,
-) -> Result<Vec<Change>, AllocError>
-    requires { at + change_width * count ≤ length queue.now }
-    ensures { IfOk result (λ v. map change_of v.items ≡ changes_in count (drop at queue.now)) }
-{
-    let mut changes = Vec::new(heap);
-    for i in 0..count {
-        changes.push(change::change_at(queue, at + CHANGE_WIDTH * i))?;
+// A queue of full length that is lent to be read.
+#[derive(Clone, Copy)]
+pub struct State<'a> {
+    pub queue: &'a [u64],
+    ghost long: { queue_length ≤ length queue.now },
+}
+
+impl<'a> State<'a> {
+    // The changes of the section that begins at `at`: as many as its count says, and at most so many.
+    fn section(self, count: usize, at: usize, most: usize) -> Changes<'a>
+        requires counted { count < queue_length }
+        requires within { at + change_width * most ≤ queue_length }
+        ensures { listed result ≡ held count at most self.entry.queue.now }
+    {
+        let n = self.queue[count].min(most as u64) as usize;
+        Changes::at(self.queue, at, n)
     }
-    Ok(changes)
-}
 
-pub fn landed(heap: Global, queue: &[u64]) -> Result<Vec<Change>, AllocError>
-    requires { queue_length ≤ length queue.now }
-    ensures { IfOk result (λ v. map change_of v.items ≡ changes_in (min (slice_index queue.now landed_count) most_landed) (drop landed_at queue.now)) }
-{
-    let count = queue[LANDED_COUNT].min(MOST_LANDED as u64);
-    changes_in(heap, queue, LANDED_AT, count as usize)
-}
+    pub fn landed(self) -> Changes<'a>
+        ensures { listed result ≡ landed_held self.entry.queue.now }
+    {
+        self.section(LANDED_COUNT, LANDED_AT, MOST_LANDED)
+    }
 
-pub fn waiting(heap: Global, queue: &[u64]) -> Result<Vec<Change>, AllocError>
-    requires { queue_length ≤ length queue.now }
-    ensures { IfOk result (λ v. map change_of v.items ≡ changes_in (min (slice_index queue.now waiting_count) most_waiting) (drop waiting_at queue.now)) }
-{
-    let count = queue[WAITING_COUNT].min(MOST_WAITING as u64);
-    changes_in(heap, queue, WAITING_AT, count as usize)
-}
+    pub fn waiting(self) -> Changes<'a>
+        ensures { listed result ≡ waiting_held self.entry.queue.now }
+    {
+        self.section(WAITING_COUNT, WAITING_AT, MOST_WAITING)
+    }
 
-pub fn rejected(heap: Global, queue: &[u64]) -> Result<Vec<Change>, AllocError>
-    requires { queue_length ≤ length queue.now }
-    ensures { IfOk result (λ v. map change_of v.items ≡ changes_in (min (slice_index queue.now rejected_count) most_rejected) (drop rejected_at queue.now)) }
-{
-    let count = queue[REJECTED_COUNT].min(MOST_REJECTED as u64);
-    changes_in(heap, queue, REJECTED_AT, count as usize)
-}
+    // Those that wait and are looked at.
+    pub fn looked_at(self) -> Changes<'a>
+        ensures few { length (listed result) ≤ most_depth }
+        ensures value { listed result ≡ looked_at_held self.entry.queue.now }
+    {
+        let depth = self.queue[DEPTH_AT];
+        let n = self.queue[WAITING_COUNT].min(depth).min(MOST_DEPTH);
+        Changes::at(self.queue, WAITING_AT, n as usize)
+    }
 
-// How many runs are running.
-pub fn running_count(queue: &[u64]) -> usize
-    requires { queue_length ≤ length queue.now }
-    ensures { result ≡ min (slice_index queue.now running_count) most_running }
-{
-    queue[RUNNING_COUNT].min(MOST_RUNNING as u64) as usize
-}
+    pub fn rejected(self) -> Changes<'a>
+        ensures { listed result ≡ rejected_held self.entry.queue.now }
+    {
+        self.section(REJECTED_COUNT, REJECTED_AT, MOST_REJECTED)
+    }
 
-// The numbers of the run at this place.
-pub fn running_row(queue: &[u64], place: usize) -> &[u64]
-    requires long { queue_length ≤ length queue.now }
-    requires there { place < most_running }
-    ensures { run_width ≤ length result.now }
-{
-    let at = RUNNING_AT + RUN_WIDTH * place;
-    &queue[at..at + RUN_WIDTH]
+    // The numbers of the runs that are running.
+    pub fn running(self) -> &'a [[u64; RUN_WIDTH]]
+        ensures { length result.now ≡ min (slice_index self.entry.queue.now running_count) most_running }
+    {
+        let count = self.queue[RUNNING_COUNT].min(MOST_RUNNING as u64) as usize;
+        let (rows, _) = self.queue[RUNNING_AT..QUEUE_LENGTH].as_chunks();
+        &rows[..count]
+    }
 }
 
 // The changes of a run, written out: those that landed in its part, and those that follow.
@@ -77,8 +77,6 @@ pub fn changes_of(heap: Global, landed: &[Change], r: Run) -> Result<Vec<u64>, A
 {
     let mut numbers = line_of(heap, landed, r.part)?;
     numbers.truncate(r.begins as usize);
-    for i in 0..r.follows as usize {
-        numbers.push(r.numbers[i])?;
-    }
+    numbers.extend_from_slice(r.following())?;
     Ok(numbers)
 }

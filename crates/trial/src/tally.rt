@@ -1,43 +1,47 @@
-// How much was played in all.
-use super::playing::Day;
+// How much was played.
 use std::fmt;
+use std::ops::AddAssign;
 
-#[derive(Clone, Copy)]
+// Of one day, or of all together; what there is too much of to count stays at the most that a count can be.
+#[derive(Clone, Copy, Default)]
+pub struct Counts {
+    pub events: u64,
+    pub refused: u64,
+    pub landed: u64,
+    pub rejected: u64,
+}
+
+impl AddAssign for Counts {
+    fn add_assign(&mut self, more: Counts) {
+        self.events = self.events.saturating_add(more.events);
+        self.refused = self.refused.saturating_add(more.refused);
+        self.landed = self.landed.saturating_add(more.landed);
+        self.rejected = self.rejected.saturating_add(more.rejected);
+    }
+}
+
+#[derive(Clone, Copy, Default)]
 pub struct Tally {
     days: u64,
-    events: u64,
-    refused: u64,
-    landed: u64,
-    rejected: u64,
+    counts: Counts,
 }
 
 impl Tally {
-    pub fn none() -> Tally {
-        Tally {
-            days: 0,
-            events: 0,
-            refused: 0,
-            landed: 0,
-            rejected: 0,
-        }
-    }
-
-    pub fn add(&mut self, day: &Day) {
+    pub fn add(&mut self, day: Counts) {
         self.days = self.days.saturating_add(1);
-        self.events = self.events.saturating_add(day.events);
-        self.refused = self.refused.saturating_add(day.refused);
-        self.landed = self.landed.saturating_add(day.landed);
-        self.rejected = self.rejected.saturating_add(day.rejected);
+        self.counts += day;
     }
 }
 
 impl fmt::Display for Tally {
     fn fmt<W: fmt::Write>(&self, f: &mut fmt::Formatter<W>) -> fmt::Result {
-        let days = self.days;
-        let events = self.events;
-        let refused = self.refused;
-        let landed = self.landed;
-        let rejected = self.rejected;
+        let Tally { days, counts } = *self;
+        let Counts {
+            events,
+            refused,
+            landed,
+            rejected,
+        } = counts;
         write!(
             f,
             "{days} days, {events} events ({refused} refused), {landed} changes landed, {rejected} rejected"

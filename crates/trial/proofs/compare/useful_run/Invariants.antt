@@ -1,7 +1,10 @@
-use Rattle.std.proofs.Common.{◌≡◌, ◌≤◌, length}
-use Rattle.run.specs.Limits.{most_following}
+use Rattle.std.proofs.Common.{◌≡◌, ◌+◌, ◌≤◌, length}
+use Rattle.change.specs.Change.{line}
+use Rattle.change.specs.Listed.{changes_of}
+use Rattle.trial.specs.Held.{landed_held}
 use Rattle.trial.proofs.compare.useful_run.Given as goal
 
 -- no more follow than were looked at
-abbrev pub invariant-loop-i : goal.invariant-loop-i
-invariant-loop-i l = (l.follows ≤ l.i) × (length l.numbers ≡ most_following)
+abbrev pub invariant-loop-c : goal.invariant-loop-c
+invariant-loop-c l =
+    (l.run.follows + length (changes_of l.c-iterator) ≤ l.n) × (l.run.begins ≡ length (line l.run.part (landed_held l.state.queue.now)))

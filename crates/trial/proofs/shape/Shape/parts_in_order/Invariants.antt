@@ -1,5 +1,5 @@
-use Rattle.std.proofs.Common.{◌≡◌, ◌<◌, length}
+use Rattle.std.proofs.Common.{◌<◌}
 use Rattle.trial.proofs.shape.Shape.parts_in_order.Given as goal
 
-abbrev pub invariant-loop-i : goal.invariant-loop-i
-invariant-loop-i l = (l.part < l.self.parts) × (length l.parts ≡ 8)
+abbrev pub invariant-loop-each : goal.invariant-loop-each
+invariant-loop-each l = l.part < l.self.parts
