@@ -1,10 +1,8 @@
 -- A day is played event by event. Assumes nothing.
-use Rattle.std.proofs.Common.{◌≡◌, ℕ, true, List, [], ◌∷◌, ◌++◌, drop, Some, None, codes, sym, refl, ap, ◌∙◌, true≢false}
+use Rattle.std.proofs.Common.{◌≡◌, ℕ, true, List, [], ◌∷◌, ◌++◌, drop, Some, None, codes, sym, refl, ap, ◌∙◌, true≢false, Ok, Err}
 use Rattle.std.specs.declared.fmt.Formatter.{Formatter}
 use Rattle.std.specs.Fmt.{IsPlainFormatter, HasWritten}
 use Rattle.queue.specs.declared.reply.Refusal.{Refusal}
-use Rattle.queue.specs.declared.reply.Reply.{Reply}
-use Rattle.queue.specs.declared.reply.Reply.TheVariants.{Done, Refused}
 use Rattle.promises.specs.Lent.{is_done}
 use Rattle.day.specs.Day.{answered, printed, lines, ends, started_text, text_from, day_text}
 use Rattle.day.specs.DayFile.{config_read, next_event, events_of, events_in}
@@ -12,6 +10,7 @@ use Rattle.day.specs.Played.{started}
 use Rattle.day.specs.Text.{refusal_text}
 use Rattle.day.proofs.Events.{events_none, events_more}
 use Rattle.day.proofs.Writing.{Sofar, sofar_none, sofar_more, sofar_all}
+use Rattle.queue.specs.Entry.{Reply}
 
 module _ {W : Type 0} (took : W → List ℕ → W → Type 0) (f : Formatter W) (most : ℕ) (whole last : List ℕ) where
   -- these numbers and bytes are left of a day that holds at most so many changes: its lines so far were written, and the numbers at its end are the last
@@ -51,11 +50,11 @@ module _ (most : ℕ) (bs : List ℕ) (t : ℕ × ℕ) (e : config_read bs ≡ S
   text-started = ap (λ o. text_from most o (events_in bs)) e
 
   done-text : (r : Reply) (xs : List ℕ) (es : List (List ℕ)) → is_done r ≡ true → started_text most r xs es ≡ lines most xs es
-  done-text (Done n) xs es d = refl
-  done-text (Refused r) xs es d = absurd (true≢false (sym d))
+  done-text (Ok n) xs es d = refl
+  done-text (Err r) xs es d = absurd (true≢false (sym d))
 
   pub text-done : (ys : List ℕ) → is_done (started t.0 t.1).0 ≡ true → ys ≡ (started t.0 t.1).1 → day_text most bs ≡ lines most ys (events_in bs)
   text-done ys d b = text-started ∙ done-text (started t.0 t.1).0 _ _ d ∙ ap (λ (l : List ℕ). lines most l (events_in bs)) (sym b)
 
-  pub text_refused : (r : Refusal) → (started t.0 t.1).0 ≡ Refused r → day_text most bs ≡ refusal_text r ++ codes "\n"
+  pub text_refused : (r : Refusal) → (started t.0 t.1).0 ≡ Err r → day_text most bs ≡ refusal_text r ++ codes "\n"
   text_refused r a = text-started ∙ ap (λ (s : Reply). started_text most s (started t.0 t.1).1 (events_in bs)) a

@@ -5,10 +5,8 @@ use Rattle.run.specs.Numbers.{decode}
 use Rattle.queue.specs.Queue.{Event}
 use Rattle.queue.specs.Events.{event_in}
 use Rattle.queue.specs.Refusals.{Check, refusal, report_kind}
-use Rattle.queue.specs.Entry.{config, opened, stepped, unless_refused}
+use Rattle.queue.specs.Entry.{Reply, config, opened, stepped, unless_refused}
 use Rattle.queue.specs.declared.reply.Refusal.{Refusal}
-use Rattle.queue.specs.declared.reply.Reply.{Reply}
-use Rattle.queue.specs.declared.reply.Reply.TheVariants.{Done, Refused}
 use Rattle.promises.specs.Day.{logged, Truthful}
 use Rattle.promises.specs.Promises.{AsSerial, AllTested}
 use Rattle.promises.specs.Lent.{is_done, lent_day, taken_events}
@@ -59,11 +57,11 @@ module _ (first xs ys e : List ℕ) (log more : List (List ℕ)) (r : Reply) (p 
       ∙ all_taken_more first log e t (sym (ap (λ (a : Reply × List ℕ). is_done a.0) p ∙ ap (λ (l : List ℕ). is_done (stepped l e).0) follows) ∙ d)
 
 -- a refused event leaves the numbers
-pub refusal-stays : (xs e ys : List ℕ) (r : Refusal) → (Refused r, ys) ≡ stepped xs e → ys ≡ xs
+pub refusal-stays : (xs e ys : List ℕ) (r : Refusal) → (Err r, ys) ≡ stepped xs e → ys ≡ xs
 unfolding stepped
 refusal-stays xs e ys r = go (refusal report_kind xs e) _ _
   where
-    go : (c : Check) (n : ℕ) (zs : List ℕ) → ◌≡◌ {A = Reply × List ℕ} (Refused r, ys) (unless_refused c xs (Done n, zs)) → ys ≡ xs
+    go : (c : Check) (n : ℕ) (zs : List ℕ) → ◌≡◌ {A = Reply × List ℕ} (Err r, ys) (unless_refused c xs (Ok n, zs)) → ys ≡ xs
     go None n zs p = absurd (true≢false (sym (ap (λ (a : Reply × List ℕ). is_done a.0) p)))
     go (Some s) n zs p = ap (λ (a : Reply × List ℕ). a.1) p
 
@@ -97,8 +95,8 @@ unfolding answered
 answered-held most xs e h = ap (λ (b : Bool). cond b (turned_away (stepped xs e).0, xs) (stepped xs e)) h
 
 pub never_taken : (r : Reply) → is_done (turned_away r) ≡ false
-never_taken (Done n) = refl
-never_taken (Refused r) = refl
+never_taken (Ok n) = refl
+never_taken (Err r) = refl
 
 -- what holds of any error holds where there is one
 pub refused_any : {T E : Type 0} (r : Result T E) (P : E → Type 0) → ((y : E) → P y) → IfErr r P

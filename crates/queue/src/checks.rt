@@ -216,18 +216,10 @@ pub fn check_event(event: &[u64]) -> Result<Kind, Refusal>
     ensures says { check_of result ≡ event_check report_kind event.now }
     ensures hands { Hands result (λ k. (kind_number k ≡ slice_index event.now 0) × (event_length ≤ length event.now)) }
 {
-    if event.len() < EVENT_LENGTH {
+    if event.len() < EVENT_LENGTH || event[1] >= NUMBER_LIMIT {
         return Err(Refusal::Event);
     }
-    if event[1] >= NUMBER_LIMIT {
-        return Err(Refusal::Event);
-    }
-    match event[0] {
-        0 => Ok(Kind::Submit),
-        1 => Ok(Kind::Withdraw),
-        2 => Ok(Kind::Report),
-        _ => Err(Refusal::Event),
-    }
+    Kind::try_from(event[0])
 }
 
 // No change that landed, waits or was rejected has the number.

@@ -1,4 +1,5 @@
 // Opening a lent queue, and applying an event to it.
+// The user asked for this form of an entry: each check hands on its value, or the call leaves by `let .. else`.
 ghost use Rattle.std.specs.Prelude.{◌≡◌, ◌<◌, ◌≤◌, length, drop, slice_index};
 ghost use Rattle.plan.specs.Numbers.{Ready};
 ghost use Rattle.plan.specs.Plan.{planned};
@@ -37,7 +38,7 @@ pub fn open(queue: &mut [u64], benches: u64, depth: u64) -> Reply
     numbers.fill(0);
     queue[BENCHES_AT] = benches;
     queue[DEPTH_AT] = depth;
-    Reply::Done(0)
+    Ok(0)
 }
 
 // Applies an event to a queue: it is recorded, what can be decided is decided, and runs are requested.
@@ -82,13 +83,10 @@ fn check_queue(queue: &[u64]) -> Result<Checked, Refusal>
 }
 
 // The refusal with which a check left.
-fn refused<T: Drop>(r: Result<T, Refusal>) -> Reply
-    ensures { Replies r result }
+fn refused<T: Drop>(checked: Result<T, Refusal>) -> Reply
+    ensures { Replies checked result }
 {
-    match r {
-        Ok(_) => Reply::Done(0),
-        Err(e) => Reply::Refused(e),
-    }
+    checked.map(|_| 0)
 }
 
 // A change is submitted.
@@ -172,5 +170,5 @@ fn advance(queue: &mut [u64], mut tally: [u64; PARTS]) -> Reply
 {
     decide::pass(queue, &mut tally);
     plan::plan_runs(queue, &tally);
-    Reply::Done(queue[RUNNING_COUNT])
+    Ok(queue[RUNNING_COUNT])
 }

@@ -1,10 +1,10 @@
 use Rattle.std.proofs.Common.{ℕ, List, sym, refl, ap, ◌∙◌, arith}
 use Rattle.std.proofs.lemmas.List.{with_items_is}
-use Rattle.queue.specs.declared.reply.Reply.{Reply}
 use Rattle.promises.specs.Lent.{is_done}
 use Rattle.day.specs.Played.{started}
 use Rattle.day.proofs.Log.{started_is, lent_day_none, all_taken_none}
 use Rattle.day.proofs.logged.Day.open.Goals as goal
+use Rattle.queue.specs.Entry.{Reply}
 
 pub invariant_of-result : goal.invariant_of-result
 invariant_of-result c =

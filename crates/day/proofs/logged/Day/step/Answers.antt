@@ -1,8 +1,6 @@
-use Rattle.std.proofs.Common.{ℕ, cond, List, [], ◌∷◌, ◌++◌, sym, refl, ap, ◌∙◌, append-nil, arith}
+use Rattle.std.proofs.Common.{ℕ, cond, List, [], ◌∷◌, ◌++◌, sym, refl, ap, ◌∙◌, append-nil, arith, Ok}
 use Rattle.std.proofs.lemmas.List.{with_items_is}
-use Rattle.queue.specs.Entry.{stepped}
-use Rattle.queue.specs.declared.reply.Reply.{Reply}
-use Rattle.queue.specs.declared.reply.Reply.TheVariants.{Done}
+use Rattle.queue.specs.Entry.{Reply, stepped}
 use Rattle.promises.specs.Lent.{is_done, lent_day}
 use Rattle.day.specs.Played.{started, all_taken}
 use Rattle.day.proofs.Log.{follows_more, taken_more, refusal-stays}
@@ -18,7 +16,7 @@ invariant_of-self-in-Done c =
     record {
       began = d.began;
       follows = with_items_is d.numbers ys (omega arith) ∙ follows_more first _ ys c.args.event _ _ c.apply-reply.result c.apply-reply.ensures follows grown;
-      taken = taken_more first _ ys c.args.event _ _ (Done c.in-Done.field-0) c.in-Done.ensures follows grown d.taken refl;
+      taken = taken_more first _ ys c.args.event _ _ (Ok c.in-Done.field-0) c.in-Done.ensures follows grown d.taken refl;
     }
 
 pub invariant_of-self-in-Refused : goal.invariant_of-self-in-Refused
