@@ -16,10 +16,10 @@ pub loop-next-preserved : goal.loop-next-preserved
 loop-next-preserved g c =
     let d = c.loop-next.day in
     let same = c.loop-next.invariant.1 in (
-      underway_more g.W.Write.write_str_gives _ _ _ _ _ c.loop-next.rest.now _ _ c.in-Some.next c.in-Ok.reply _ _ c.loop-next.invariant.0 (sym c.in-Some.ensures)
-          (c.in-Ok.ensures.answers ∙ ap (λ (m : ℕ). answered m d.numbers.items c.in-Some.next.1) same) c.past-rest.ensures
-          (λ p. has_written_of_eq g.W.Write.write_str_gives _ _ _ _ (ap (λ (l : List ℕ). printed (c.in-Ok.reply, l)) c.numbers.ensures) (c.in_ok-write_reply.ensures p refl)),
-      c.in-Ok.ensures.stays.2 ∙ same,
+      underway_more g.W.Write.write_str_gives _ _ _ _ _ c.loop-next.rest.now _ _ c.in-Some.next c.in_ok-reply.reply _ _ c.loop-next.invariant.0 (sym c.in-Some.ensures)
+          (c.in_ok-reply.ensures.answers ∙ ap (λ (m : ℕ). answered m d.numbers.items c.in-Some.next.1) same) c.past-rest.ensures
+          (λ p. has_written_of_eq g.W.Write.write_str_gives _ _ _ _ (ap (λ (l : List ℕ). printed (c.in_ok-reply.reply, l)) c.numbers.ensures) (c.in_ok-write_reply.ensures p refl)),
+      c.in_ok-reply.ensures.stays.2 ∙ same,
     )
 
 pub returns : goal.returns
