@@ -1,13 +1,13 @@
 // One check for each row of the refusals, in their order: each hands on its value, or leaves with the refusal.
-ghost use Rattle.std.specs.Prelude.{◌≡◌, ◌+◌, ◌*◌, ◌<◌, ◌≤◌, length, drop, Some, slice_index};
-ghost use Rattle.change.specs.Change.{most_parts, place_of};
+ghost use Rattle.std.specs.Prelude.{◌≡◌, ◌+◌, ◌*◌, ◌<◌, ◌≤◌, ◌&&◌, length, drop, nat_le, Some, slice_index};
+ghost use Rattle.change.specs.Change.{place_of};
 ghost use Rattle.change.specs.Records.{Tallies, change_in, change_of, change_width, changes_in};
-ghost use Rattle.run.specs.Limits.{most_following};
 ghost use Rattle.std.specs.Option.{option_map};
+ghost use Rattle.queue.specs.Queue.{used};
 ghost use Rattle.queue.specs.Stages.{Counted, Roomy, kind_number};
 ghost use Rattle.run.specs.Layout.{event_length, landed_at, most_landed, most_rejected, most_verdicts, number_limit, queue_length, requested_at};
-ghost use Rattle.run.specs.Numbers.{RunsFit, landed_in, waiting_in};
-ghost use Rattle.queue.specs.Refusals.{Hands, benches_check, check_of, count_check, counts_check, depth_check, event_check, length_check, number_check, over, overlong, parts_check, records_check, requests_check, room_check, runs_check, sums_check, verdicts_check, waits_check, place_check, report_kind};
+ghost use Rattle.run.specs.Numbers.{RunsFit, landed_in, rejected_in, waiting_in};
+ghost use Rattle.queue.specs.Refusals.{Hands, benches_check, check_of, count_check, counts_check, depth_check, event_check, length_check, number_check, over, overlong, parts_check, unless, records_check, requests_check, room_check, runs_check, sums_check, verdicts_check, waits_check, place_check, report_kind};
 ghost use Rattle.queue.specs.declared.reply.Refusal.TheVariants.{Malformed};
 
 use super::counts::Counts;
@@ -63,50 +63,22 @@ fn count_at(queue: &[u64], at: usize, most: usize) -> Result<usize, Refusal>
     }
 }
 
-// Of n records from `base` on, the index of the first count, at this field of its record, that is above the most.
-fn first_over(
+// None of n records from `base` on has, at this field, a count above the most.
+fn check_field(
     queue: &[u64],
     base: usize,
     width: usize,
     field: usize,
     most: usize,
     n: usize,
-) -> Option<usize>
+) -> Result<usize, Refusal>
     requires fits { base + width * n ≤ length queue.now }
     requires inside { field < width }
-    ensures { result ≡ over width field most n base queue.now }
-{
-    let mut at = base;
-    for turn in 0..n {
-        if queue[at + field] > most as u64 {
-            return Some(at + field);
-        }
-        at += width;
-    }
-    None
-}
-
-// None of the n changes from `base` on has too many parts.
-fn check_changes(queue: &[u64], base: usize, n: usize) -> Result<usize, Refusal>
-    requires { base + change_width * n ≤ length queue.now }
-    ensures says { check_of result ≡ option_map Malformed (over change_width 1 most_parts n base queue.now) }
+    ensures says { check_of result ≡ option_map Malformed (over width field most n base queue.now) }
     ensures hands { Hands result (λ m. m ≡ n) }
 {
-    match first_over(queue, base, CHANGE_WIDTH, 1, MOST_PARTS, n) {
-        Some(at) => Err(Refusal::Malformed(at as u64)),
-        None => Ok(n),
-    }
-}
-
-// None of the n runs in records from `base` on has too many changes that follow.
-fn check_following(queue: &[u64], base: usize, width: usize, n: usize) -> Result<usize, Refusal>
-    requires fits { base + width * n ≤ length queue.now }
-    requires wide { 2 < width }
-    ensures says { check_of result ≡ option_map Malformed (over width 2 most_following n base queue.now) }
-    ensures hands { Hands result (λ m. m ≡ n) }
-{
-    match first_over(queue, base, width, 2, MOST_FOLLOWING, n) {
-        Some(at) => Err(Refusal::Malformed(at as u64)),
+    match (0..n).find(|i| queue[base + width * *i + field] > most as u64) {
+        Some(i) => Err(Refusal::Malformed((base + width * i + field) as u64)),
         None => Ok(n),
     }
 }
@@ -118,11 +90,13 @@ pub fn check_records(queue: &[u64], counts: Counts) -> Result<Counts, Refusal>
     ensures says { check_of result ≡ records_check queue.now }
     ensures hands { Hands result (λ n. n ≡ counts) }
 {
-    let _landed = check_changes(queue, LANDED_AT, counts.landed)?;
-    let _waiting = check_changes(queue, WAITING_AT, counts.waiting)?;
-    let _rejected = check_changes(queue, REJECTED_AT, counts.rejected)?;
-    let _verdicts = check_following(queue, VERDICTS_AT, VERDICT_WIDTH, counts.verdicts)?;
-    let _running = check_following(queue, RUNNING_AT, RUN_WIDTH, counts.running)?;
+    let parts = MOST_PARTS;
+    let _landed = check_field(queue, LANDED_AT, CHANGE_WIDTH, 1, parts, counts.landed)?;
+    let _waiting = check_field(queue, WAITING_AT, CHANGE_WIDTH, 1, parts, counts.waiting)?;
+    let _rejected = check_field(queue, REJECTED_AT, CHANGE_WIDTH, 1, parts, counts.rejected)?;
+    let follow = MOST_FOLLOWING;
+    let _verdicts = check_field(queue, VERDICTS_AT, VERDICT_WIDTH, 2, follow, counts.verdicts)?;
+    let _running = check_field(queue, RUNNING_AT, RUN_WIDTH, 2, follow, counts.running)?;
     Ok(counts)
 }
 
@@ -141,30 +115,31 @@ pub fn check_sums(queue: &[u64], counts: Counts) -> Result<Counts, Refusal>
     Ok(counts)
 }
 
-// Of n runs in records from `base` on, the index of the first that begins with more landed changes than its part has.
-fn first_overlong(
+// None of n runs in records from `base` on begins with more landed changes than its part has.
+fn check_begins(
     queue: &[u64],
     tally: &[u64; PARTS],
     landed: usize,
     base: usize,
     width: usize,
     n: usize,
-) -> Option<usize>
+) -> Result<usize, Refusal>
     requires fits { base + width * n ≤ length queue.now }
     requires wide { 1 < width }
     requires inside { landed_at + change_width * landed ≤ length queue.now }
     requires tallied { Tallies tally.now (changes_in landed (drop landed_at queue.now)) }
-    ensures { result ≡ overlong (changes_in landed (drop landed_at queue.now)) width n base queue.now }
+    ensures says { check_of result ≡ option_map Malformed (overlong (changes_in landed (drop landed_at queue.now)) width n base queue.now) }
+    ensures hands { Hands result (λ m. m ≡ n) }
 {
-    let mut at = base;
-    for turn in 0..n {
+    let overlong = (0..n).find(|i| {
+        let at = base + width * *i;
         let held = change::count_of(tally, queue, LANDED_AT, landed, queue[at]);
-        if queue[at + 1] > held {
-            return Some(at);
-        }
-        at += width;
+        queue[at + 1] > held
+    });
+    match overlong {
+        Some(i) => Err(Refusal::Malformed((base + width * i) as u64)),
+        None => Ok(n),
     }
-    None
 }
 
 // No run begins with more landed changes than its part has; how many landed changes each part has.
@@ -177,14 +152,22 @@ pub fn check_runs(queue: &[u64], counts: Counts) -> Result<[u64; PARTS], Refusal
     let landed = counts.landed;
     let tally = change::tally_parts(queue, LANDED_AT, landed);
     let held = counts.verdicts;
-    if let Some(at) = first_overlong(queue, &tally, landed, VERDICTS_AT, VERDICT_WIDTH, held) {
-        return Err(Refusal::Malformed(at as u64));
-    }
+    let _verdicts = check_begins(queue, &tally, landed, VERDICTS_AT, VERDICT_WIDTH, held)?;
     let running = counts.running;
-    if let Some(at) = first_overlong(queue, &tally, landed, RUNNING_AT, RUN_WIDTH, running) {
-        return Err(Refusal::Malformed(at as u64));
-    }
+    let _running = check_begins(queue, &tally, landed, RUNNING_AT, RUN_WIDTH, running)?;
     Ok(tally)
+}
+
+// The number, if it is 1 at least, and not above the most.
+fn check_some(number: u64, most: u64, refusal: Refusal) -> Result<u64, Refusal>
+    ensures says { check_of result ≡ unless (nat_le 1 number && nat_le number most) refusal }
+    ensures hands { Hands result (λ n. n ≡ number) }
+{
+    if number < 1 || number > most {
+        Err(refusal)
+    } else {
+        Ok(number)
+    }
 }
 
 // There are benches, and not too many.
@@ -192,11 +175,7 @@ pub fn check_benches(benches: u64) -> Result<u64, Refusal>
     ensures says { check_of result ≡ benches_check benches }
     ensures hands { Hands result (λ n. n ≡ benches) }
 {
-    if benches < 1 || benches > MOST_BENCHES {
-        Err(Refusal::Benches)
-    } else {
-        Ok(benches)
-    }
+    check_some(benches, MOST_BENCHES, Refusal::Benches)
 }
 
 // Some of those that wait are looked at, and not too many.
@@ -204,11 +183,7 @@ pub fn check_depth(depth: u64) -> Result<u64, Refusal>
     ensures says { check_of result ≡ depth_check depth }
     ensures hands { Hands result (λ n. n ≡ depth) }
 {
-    if depth < 1 || depth > MOST_DEPTH {
-        Err(Refusal::Depth)
-    } else {
-        Ok(depth)
-    }
+    check_some(depth, MOST_DEPTH, Refusal::Depth)
 }
 
 // The event is long enough, of a known kind, and its number is small enough.
@@ -222,6 +197,17 @@ pub fn check_event(event: &[u64]) -> Result<Kind, Refusal>
     Kind::try_from(event[0])
 }
 
+// Whether a change that landed, waits or was rejected has the number.
+fn used(queue: &[u64], counts: Counts, number: u64) -> bool
+    requires long { queue_length ≤ length queue.now }
+    requires counted { Counted queue.now counts }
+    ensures { result ≡ used number (landed_in queue.now) (waiting_in queue.now) (rejected_in queue.now) }
+{
+    change::number_used(queue, LANDED_AT, counts.landed, number)
+        || change::number_used(queue, WAITING_AT, counts.waiting, number)
+        || change::number_used(queue, REJECTED_AT, counts.rejected, number)
+}
+
 // No change that landed, waits or was rejected has the number.
 pub fn check_number(queue: &[u64], counts: Counts, number: u64) -> Result<u64, Refusal>
     requires long { queue_length ≤ length queue.now }
@@ -229,16 +215,11 @@ pub fn check_number(queue: &[u64], counts: Counts, number: u64) -> Result<u64, R
     ensures says { check_of result ≡ number_check queue.now number }
     ensures hands { Hands result (λ n. n ≡ number) }
 {
-    if change::number_used(queue, LANDED_AT, counts.landed, number) {
-        return Err(Refusal::NumberUsed(number));
+    if used(queue, counts, number) {
+        Err(Refusal::NumberUsed(number))
+    } else {
+        Ok(number)
     }
-    if change::number_used(queue, WAITING_AT, counts.waiting, number) {
-        return Err(Refusal::NumberUsed(number));
-    }
-    if change::number_used(queue, REJECTED_AT, counts.rejected, number) {
-        return Err(Refusal::NumberUsed(number));
-    }
-    Ok(number)
 }
 
 // The change that is submitted, if it is well formed.

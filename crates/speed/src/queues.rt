@@ -114,7 +114,7 @@ pub fn keep(into: &mut [u64], from: &[u64]) {
 
 fn done(reply: Reply) -> u64 {
     match reply {
-        Reply::Done(_) => 1,
-        Reply::Refused(_) => 0,
+        Ok(_) => 1,
+        Err(_) => 0,
     }
 }

@@ -133,8 +133,8 @@ impl Day {
     fn took(&mut self, reply: Reply) -> bool {
         self.events = self.events.saturating_add(1);
         match reply {
-            Reply::Done(_) => true,
-            Reply::Refused(_) => {
+            Ok(_) => true,
+            Err(_) => {
                 self.refused = self.refused.saturating_add(1);
                 false
             }

@@ -1,6 +1,5 @@
 // Where two things are wrong at once, the first of the list answers; a refusal leaves every number as it was.
 use change::CHANGE_WIDTH;
-use queue::Reply;
 use run::{
     BENCHES_AT, DEPTH_AT, LANDED_AT, LANDED_COUNT, QUEUE_LENGTH, REJECTED_AT, REJECTED_COUNT,
     REQUESTED_AT, RUNNING_AT, RUNNING_COUNT, VERDICTS_AT, VERDICTS_COUNT, WAITING_AT,
@@ -279,7 +278,7 @@ fn answer(queue: &mut [u64], before: &mut [u64], case: Case) -> Option<(u64, u64
         return None;
     }
     before.copy_from_slice(queue);
-    let Reply::Refused(refusal) = queue::apply(&mut queue[0..length], &event) else {
+    let Err(refusal) = queue::apply(&mut queue[0..length], &event) else {
         return None;
     };
     for i in 0..queue.len() {
