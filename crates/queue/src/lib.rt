@@ -6,6 +6,7 @@ mod checked;
 mod checks;
 mod counts;
 mod entry;
+mod held;
 mod kind;
 mod laws;
 mod recording;
