@@ -1,10 +1,12 @@
 // Reads a day file: its config, and one event behind the other.
 ghost use Rattle.std.specs.Prelude.{◌≡◌, ◌≤◌, ◌∷◌, length, replicate};
+ghost use Rattle.std.specs.Iterator.{YieldsFirst, item_count};
 ghost use Rattle.change.specs.Change.{most_parts};
 ghost use Rattle.change.specs.Records.{fixed};
 ghost use Rattle.queue.specs.Stages.{kind_number};
-ghost use Rattle.day.specs.DayFile.{config_read, next_event, number_read, submission, withdrawal, report};
+ghost use Rattle.day.specs.DayFile.{config_read, events_of, next_event, number_read, submission, withdrawal, report};
 
+use super::slices::past;
 use change::MOST_PARTS;
 use queue::Kind;
 use run::EVENT_LENGTH;
@@ -29,6 +31,27 @@ pub fn config_read(bytes: &[u8]) -> Option<(u64, u64)>
         return None;
     }
     Some((u64::from(bytes[0]), u64::from(bytes[1])))
+}
+
+// The events behind a config, up to the first that ends early or is of no known kind.
+#[derive(Drop)]
+pub struct Events<'a> {
+    pub rest: &'a [u8],
+}
+
+impl Iterator for Events<'_> {
+    type Item = [u64; EVENT_LENGTH];
+
+    ghost next_gives = { YieldsFirst (λ events. events_of events.rest.now) };
+
+    ghost remaining = { item_count (λ events. events_of events.rest.now) };
+
+    fn next(&mut self) -> Option<[u64; EVENT_LENGTH]> {
+        let next = next_event(self.rest)?;
+        let (taken, event) = next;
+        self.rest = past(self.rest, taken);
+        Some(event)
+    }
 }
 
 // The first event, and how many bytes it takes; none if it ends early or is of no known kind.

@@ -6,7 +6,7 @@ ghost use Rattle.day.specs.DayFile.{events_of};
 ghost use Rattle.day.specs.Logged.{Promised, numbers_of};
 ghost use Rattle.day.specs.declared.playing.NotPlayed.TheVariants.{Memory, Output};
 
-use super::file::{CONFIG_BYTES, config_read, next_event};
+use super::file::{CONFIG_BYTES, Events, config_read};
 use super::logged::{Day, NotOpened};
 use super::reply::ReplyLine;
 use super::slices::past;
@@ -95,12 +95,9 @@ pub fn play_events<W: fmt::Write>(
     ensures after { OnOk result (numbers_of day.new ≡ ends day.old.most (numbers_of day.old) (events_of bytes.now)) }
     ensures promised { Promised day.new }
 {
-    let mut rest = bytes;
-    while let Some(next) = next_event(rest) {
-        let (taken, event) = next;
+    for event in (Events { rest: bytes }) {
         let reply = day.apply(event)?;
         write_reply(f, reply, day.numbers())?;
-        rest = past(rest, taken);
     }
     Ok(())
 }
