@@ -1,5 +1,5 @@
 -- A day is played event by event. Assumes nothing.
-use Rattle.std.proofs.Common.{◌≡◌, ℕ, true, List, [], ◌∷◌, ◌++◌, drop, Some, None, codes, sym, refl, ap, ◌∙◌, true≢false, Ok, Err}
+use Rattle.std.proofs.Common.{◌≡◌, ℕ, true, List, [], ◌∷◌, ◌++◌, Some, None, codes, sym, refl, ap, ◌∙◌, true≢false, Ok, Err}
 use Rattle.std.specs.declared.fmt.Formatter.{Formatter}
 use Rattle.std.specs.Fmt.{IsPlainFormatter, HasWritten}
 use Rattle.queue.specs.Entry.{Reply}
@@ -7,9 +7,8 @@ use Rattle.queue.specs.Refusals.{refusal_text}
 use Rattle.queue.specs.declared.reply.Refusal.{Refusal}
 use Rattle.promises.specs.Lent.{is_done}
 use Rattle.day.specs.Day.{answered, printed, lines, ends, started_text, text_from, day_text}
-use Rattle.day.specs.DayFile.{config_read, next_event, events_of, events_in}
+use Rattle.day.specs.DayFile.{config_read, events_in}
 use Rattle.day.specs.Played.{started}
-use Rattle.day.proofs.Events.{events_none, events_more}
 use Rattle.day.proofs.Writing.{Sofar, sofar_none, sofar_more, sofar_all}
 
 module _ {W : Type 0} (took : W → List ℕ → W → Type 0) (f : Formatter W) (most : ℕ) (whole last : List ℕ) where

@@ -1,5 +1,5 @@
 -- A list that is padded with 0 to a fixed length, one element after another. Assumes nothing.
-use Rattle.std.proofs.Common.{◌≡◌, ℕ, suc, ◌+◌, ◌-◌, ◌<◌, ◌≤◌, min, true, leb, List, [], ◌∷◌, ◌++◌, length, get_or, take, drop, set, replicate, Some, sym, ap, ◌∙◌, ⊎_elim, append_assoc, append-nil, arith, le-leb}
+use Rattle.std.proofs.Common.{◌≡◌, ℕ, suc, ◌+◌, ◌-◌, ◌<◌, min, List, [], ◌∷◌, ◌++◌, length, get_or, take, set, replicate, sym, ap, ◌∙◌, ⊎_elim, append_assoc, append-nil, arith}
 use Rattle.std.proofs.lemmas.List.{set_at, take_all, take_more, length-take-le, take-append-le}
 use Rattle.std.proofs.str.Laws.{order}
 use Rattle.change.specs.Records.{fixed}

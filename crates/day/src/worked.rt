@@ -6,8 +6,7 @@ use queue::worked_day;
 // Its file says its events.
 pub fn worked_file()
     ensures { WorkedFile }
-{
-}
+{}
 
 // Its states are printed as these lines.
 pub fn worked_lines()

@@ -1,5 +1,5 @@
 -- Laws of the searches through records that the checks make.
-use Rattle.std.proofs.Common.{◌≡◌, ℕ, zero, suc, ◌+◌, ◌-◌, ◌*◌, ◌<◌, ◌≤◌, Bool, true, false, cond, ◌||◌, leb, List, length, get_or, drop, is_some, Some, None, Option, sym, refl, ap, ◌∙◌, subst, true≢false, mul-zero, mul-suc, arith}
+use Rattle.std.proofs.Common.{◌≡◌, ℕ, zero, suc, ◌+◌, ◌*◌, ◌<◌, ◌≤◌, Bool, true, false, cond, ◌||◌, leb, List, length, get_or, drop, is_some, Some, None, Option, sym, refl, ap, ◌∙◌, subst, true≢false, mul-zero, mul-suc, arith}
 use Rattle.std.specs.Option.{option_map}
 use Rattle.std.proofs.lemmas.List.{get_or-drop}
 use Rattle.std.proofs.lemmas.Bool.{leb-true}
@@ -7,7 +7,7 @@ use Rattle.change.specs.Change.{Change, line, place_of}
 use Rattle.change.specs.Records.{changes_in}
 use Rattle.change.proofs.Changes.{place_numbered}
 use Rattle.run.specs.Numbers.{Begins, waiting_in}
-use Rattle.queue.specs.Refusals.{over, overlong, unless, waits_check}
+use Rattle.queue.specs.Refusals.{overlong, unless, waits_check}
 use Rattle.queue.specs.declared.reply.Refusal.TheVariants.{NotWaiting}
 
 -- a search through n records of width w from `at` on, which ends at the first that fails a test

@@ -185,7 +185,8 @@ impl Held<'_> {
         ensures says { check_of result ≡ waits_check self.entry.queue.now number }
         ensures hands { Hands result (λ i. place_of number (waiting_in self.entry.queue.now) ≡ Some i) }
     {
-        let Some(place) = change::find_number(self.queue, WAITING_AT, self.counts.waiting, number) else {
+        let Some(place) = change::find_number(self.queue, WAITING_AT, self.counts.waiting, number)
+        else {
             return Err(Refusal::NotWaiting(number));
         };
         Ok(place)

@@ -5,17 +5,14 @@ ghost use Rattle.queue.specs.WorkedDay.{WorkedDay};
 // Decoding what was encoded gives it back.
 pub fn decode_of_encode()
     ensures { DecodeEncode }
-{
-}
+{}
 
 // A tidy queue is what encoding its decoding gives.
 pub fn encode_of_decode()
     ensures { EncodeDecode }
-{
-}
+{}
 
 // The definitions give the worked day.
 pub fn worked_day()
     ensures { WorkedDay }
-{
-}
+{}

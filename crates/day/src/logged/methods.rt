@@ -44,8 +44,7 @@ impl Day {
     // Of every day, whatever was applied to it: the two promises hold. It says so and does nothing.
     pub fn keeps_promises(&self)
         ensures { Promised self.now }
-    {
-    }
+    {}
 
     // Applies an event, which joins the log if it is taken; want of memory and a refusal leave all as it was.
     // What was promised of whole days holds of this day, before and after.

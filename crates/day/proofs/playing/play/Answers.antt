@@ -1,9 +1,7 @@
-use Rattle.std.proofs.Common.{ℕ, List, Err, sym, ap, ◌∙◌, subst}
+use Rattle.std.proofs.Common.{ℕ, List, sym, ap, ◌∙◌}
 use Rattle.std.proofs.Output.{writes_in_calls_nil, has_written_of_eq}
 use Rattle.day.specs.Day.{lines}
 use Rattle.day.specs.DayFile.{events_of}
-use Rattle.day.specs.Logged.{Begins}
-use Rattle.day.specs.declared.logged.NotOpened.{NotOpened}
 use Rattle.day.proofs.Days.{text_none, text-done, text_refused}
 use Rattle.day.proofs.playing.play.Goals as goal
 

@@ -1,7 +1,7 @@
 use Rattle.std.proofs.Common.{ℕ, Bool, true, false, cond, List, [], ◌∷◌, ◌++◌, sym, refl, ap, ◌∙◌, append-nil, arith}
 use Rattle.std.proofs.lemmas.List.{with_items_is}
-use Rattle.queue.specs.Entry.{Reply, stepped}
-use Rattle.promises.specs.Lent.{is_done, lent_day}
+use Rattle.queue.specs.Entry.{stepped}
+use Rattle.promises.specs.Lent.{lent_day}
 use Rattle.day.specs.Played.{started, all_taken}
 use Rattle.day.proofs.Log.{is_done_by, follows_more, taken_more, refusal-stays}
 use Rattle.day.proofs.logged.Day.step.Goals as goal
