@@ -26,14 +26,22 @@ impl TryFrom<u64> for Kind {
     }
 }
 
-impl From<Kind> for u64 {
+impl From<Kind> for u8 {
     ghost from_gives = { λ kind number. number ≡ kind_number kind };
 
-    fn from(kind: Kind) -> u64 {
+    fn from(kind: Kind) -> u8 {
         match kind {
             Kind::Submit => 0,
             Kind::Withdraw => 1,
             Kind::Report => 2,
         }
+    }
+}
+
+impl From<Kind> for u64 {
+    ghost from_gives = { λ kind number. number ≡ kind_number kind };
+
+    fn from(kind: Kind) -> u64 {
+        u64::from(u8::from(kind))
     }
 }
