@@ -1,16 +1,15 @@
 -- What the exported calls answer in numbers. Assumes nothing: these are definitions.
-use Rattle.std.specs.Prelude.{◌≡◌, ℕ, cond, List, ◌++◌, length, drop, Some, None, nat_le}
+use Rattle.std.specs.Prelude.{◌≡◌, ℕ, cond, List, ◌++◌, length, drop, Some, None, nat_le, Ok, Err}
 use Rattle.run.specs.Layout.{event_length}
 use Rattle.queue.specs.Refusals.{Code, code, refusal_code}
-use Rattle.queue.specs.declared.reply.Reply.{Reply}
-use Rattle.queue.specs.declared.reply.Reply.TheVariants.{Done, Refused}
 use Rattle.day.specs.DayFile.{Taken}
 use Rattle.capi.specs.declared.answer.Answer.{Answer}
+use Rattle.queue.specs.Entry.{Reply}
 
 -- 0 and the count of running, or the refusal's number and place
 abbrev pub reply_code : Reply → Code
-reply_code (Done n) = code 0 n
-reply_code (Refused r) = refusal_code r
+reply_code (Ok n) = code 0 n
+reply_code (Err r) = refusal_code r
 
 -- the answer says the reply
 abbrev pub Says : Answer → Reply → Type 0

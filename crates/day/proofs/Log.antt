@@ -1,14 +1,11 @@
 -- The log of a day gives its numbers, and the promises hold of them. Assumes nothing.
-use Rattle.std.proofs.Common.{◌≡◌, ℕ, Bool, true, false, cond, ◌&&◌, List, [], ◌∷◌, ◌++◌, map, replicate, IfErr, Some, None, Ok, Err, Result, sym, refl, ap, ◌∙◌, subst₂, true≢false}
+use Rattle.std.proofs.Common.{◌≡◌, ℕ, Bool, true, false, cond, ◌&&◌, List, [], ◌∷◌, ◌++◌, map, replicate, IfErr, is_ok, Some, None, Ok, Err, Result, sym, refl, ap, ◌∙◌, subst₂, true≢false}
 use Rattle.run.specs.Layout.{queue_length}
 use Rattle.run.specs.Numbers.{decode}
 use Rattle.queue.specs.Queue.{Event}
 use Rattle.queue.specs.Events.{event_in}
 use Rattle.queue.specs.Refusals.{Check, refusal, report_kind}
-use Rattle.queue.specs.Entry.{config, opened, stepped, unless_refused}
-use Rattle.queue.specs.declared.reply.Refusal.{Refusal}
-use Rattle.queue.specs.declared.reply.Reply.{Reply}
-use Rattle.queue.specs.declared.reply.Reply.TheVariants.{Done, Refused}
+use Rattle.queue.specs.Entry.{Reply, config, opened, stepped, unless_refused}
 use Rattle.promises.specs.Day.{logged, Truthful}
 use Rattle.promises.specs.Promises.{AsSerial, AllTested}
 use Rattle.promises.specs.Lent.{is_done, lent_day, taken_events}
@@ -58,14 +55,19 @@ module _ (first xs ys e : List ℕ) (log more : List (List ℕ)) (r : Reply) (p 
       ap (all_taken first) grown
       ∙ all_taken_more first log e t (sym (ap (λ (a : Reply × List ℕ). is_done a.0) p ∙ ap (λ (l : List ℕ). is_done (stepped l e).0) follows) ∙ d)
 
+-- a reply says that the event was taken if it is no error
+pub is_done_by : (r : Reply) (b : Bool) → is_ok r ≡ b → is_done r ≡ b
+is_done_by (Ok n) b e = e
+is_done_by (Err r) b e = e
+
 -- a refused event leaves the numbers
-pub refusal-stays : (xs e ys : List ℕ) (r : Refusal) → (Refused r, ys) ≡ stepped xs e → ys ≡ xs
+pub refusal-stays : (xs e ys : List ℕ) (r : Reply) → is_done r ≡ false → (r, ys) ≡ stepped xs e → ys ≡ xs
 unfolding stepped
 refusal-stays xs e ys r = go (refusal report_kind xs e) _ _
   where
-    go : (c : Check) (n : ℕ) (zs : List ℕ) → ◌≡◌ {A = Reply × List ℕ} (Refused r, ys) (unless_refused c xs (Done n, zs)) → ys ≡ xs
-    go None n zs p = absurd (true≢false (sym (ap (λ (a : Reply × List ℕ). is_done a.0) p)))
-    go (Some s) n zs p = ap (λ (a : Reply × List ℕ). a.1) p
+    go : (c : Check) (n : ℕ) (zs : List ℕ) → is_done r ≡ false → ◌≡◌ {A = Reply × List ℕ} (r, ys) (unless_refused c xs (Ok n, zs)) → ys ≡ xs
+    go None n zs d p = absurd (true≢false (sym (ap (λ (a : Reply × List ℕ). is_done a.0) p) ∙ d))
+    go (Some s) n zs d p = ap (λ (a : Reply × List ℕ). a.1) p
 
 -- the events taken are those of the log
 taken-all : (xs : List ℕ) (log : List (List ℕ)) → all_taken xs log ≡ true → taken_events xs log ≡ map event_in log
@@ -97,8 +99,8 @@ unfolding answered
 answered-held most xs e h = ap (λ (b : Bool). cond b (turned_away (stepped xs e).0, xs) (stepped xs e)) h
 
 pub never_taken : (r : Reply) → is_done (turned_away r) ≡ false
-never_taken (Done n) = refl
-never_taken (Refused r) = refl
+never_taken (Ok n) = refl
+never_taken (Err r) = refl
 
 -- what holds of any error holds where there is one
 pub refused_any : {T E : Type 0} (r : Result T E) (P : E → Type 0) → ((y : E) → P y) → IfErr r P

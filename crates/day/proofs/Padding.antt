@@ -1,11 +1,9 @@
 -- A list that is padded with 0 to a fixed length, one element after another. Assumes nothing.
-use Rattle.std.proofs.Common.{◌≡◌, ℕ, suc, ◌+◌, ◌-◌, ◌<◌, ◌≤◌, min, true, leb, List, [], ◌∷◌, ◌++◌, length, get_or, take, drop, set, replicate, Some, sym, ap, ◌∙◌, ⊎_elim, append_assoc, append-nil, arith, le-leb}
+use Rattle.std.proofs.Common.{◌≡◌, ℕ, suc, ◌+◌, ◌-◌, ◌<◌, min, List, [], ◌∷◌, ◌++◌, length, get_or, take, set, replicate, sym, ap, ◌∙◌, ⊎_elim, append_assoc, append-nil, arith}
 use Rattle.std.proofs.lemmas.List.{set_at, take_all, take_more, length-take-le, take-append-le}
 use Rattle.std.proofs.str.Laws.{order}
-use Rattle.change.specs.Change.{most_parts}
 use Rattle.change.specs.Records.{fixed}
 use Rattle.change.proofs.Rows.{fixed_is}
-use Rattle.day.specs.DayFile.{number_read, parts_read, submission}
 
 pub pad_next : (n i : ℕ) (xs : List ℕ) → i < n → i < length xs → set (take i xs ++ replicate (n - i) 0) i (get_or xs i 0) ≡ take (i + 1) xs ++ replicate (n - (i + 1)) 0
 pad_next n i xs in-n in-xs =
@@ -25,11 +23,3 @@ pad_all n m xs e =
     (λ le. let k : m ≡ n = omega arith in let z : n - n ≡ 0 = omega arith in
     ap (λ i. take i xs ++ replicate (n - i) 0) k ∙ ap (λ i. take n xs ++ replicate i 0) z ∙ append-nil (take n xs) ∙ sym (take-append-le n xs (replicate n 0) le))
     (order (length xs) n)
-
--- the eleven numbers of a submission
-pub submitted : (bs parts : List ℕ) (n k m : ℕ) → k ≡ get_or bs 5 0 → m ≡ get_or bs 5 0 → n ≡ number_read bs → parts ≡ fixed most_parts (take (6 + k - 6) (drop 6 bs)) →
-    6 + k ≤ length bs → Some (6 + k, 0 ∷ n ∷ m ∷ (parts ++ [])) ≡ submission bs
-submitted bs parts n k m ek em en ep le =
-    let there : leb (6 + get_or bs 5 0) (length bs) ≡ true = le-leb (6 + get_or bs 5 0) (length bs) (omega arith) in
-    let all : parts ++ [] ≡ fixed most_parts (parts_read bs) = append-nil parts ∙ ep ∙ ap (λ i. fixed most_parts (take i (drop 6 bs))) (omega arith) in
-    rw there (λ i. Some (6 + ek i, 0 ∷ en i ∷ em i ∷ all i))

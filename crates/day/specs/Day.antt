@@ -1,17 +1,15 @@
 -- A whole day: the text that is printed. Assumes nothing: these are definitions.
-use Rattle.std.specs.Prelude.{◌≡◌, ℕ, ◌+◌, Bool, true, cond, ◌&&◌, List, [], ◌∷◌, ◌++◌, is_ok, Some, None, codes, Option, Result, ◌==◌, nat_le, nat_lt, slice_index}
+use Rattle.std.specs.Prelude.{◌≡◌, ℕ, ◌+◌, Bool, true, cond, ◌&&◌, List, [], ◌∷◌, ◌++◌, is_ok, Some, None, codes, Option, Result, ◌==◌, nat_le, nat_lt, slice_index, Ok, Err}
 use Rattle.std.specs.Fmt.{IsPlainFormatter, HasWritten}
 use Rattle.std.specs.declared.fmt.Formatter.{Formatter}
 use Rattle.run.specs.Layout.{landed_count, waiting_count, rejected_count}
 use Rattle.run.specs.Numbers.{decode}
-use Rattle.queue.specs.Entry.{stepped}
-use Rattle.queue.specs.Refusals.{refusal_code}
+use Rattle.queue.specs.Entry.{Reply, stepped}
+use Rattle.queue.specs.Refusals.{refusal_code, refusal_text}
 use Rattle.queue.specs.declared.reply.Refusal.TheVariants.{WaitingFull}
-use Rattle.queue.specs.declared.reply.Reply.{Reply}
-use Rattle.queue.specs.declared.reply.Reply.TheVariants.{Done, Refused}
 use Rattle.day.specs.DayFile.{config_read, events_in}
 use Rattle.day.specs.Played.{started}
-use Rattle.day.specs.Text.{refusal_text, reply_text}
+use Rattle.day.specs.Text.{reply_text}
 
 -- how many changes a day usually holds at most
 abbrev pub usual_changes : ℕ
@@ -30,8 +28,8 @@ abbrev pub first_full : ℕ
 first_full = 9
 
 abbrev pub turned_away : Reply → Reply
-turned_away (Done n) = Refused WaitingFull
-turned_away (Refused r) = Refused (cond (nat_lt (refusal_code r).number first_full) r WaitingFull)
+turned_away (Ok n) = Err WaitingFull
+turned_away (Err r) = Err (cond (nat_lt (refusal_code r).number first_full) r WaitingFull)
 
 -- what a day that holds at most so many changes makes of an event: its reply, and the queue's numbers after it
 unfoldable pub answered : ℕ → List ℕ → List ℕ → Reply × List ℕ
@@ -56,8 +54,8 @@ ends most xs (e ∷ es) = ends most (answered most xs e).1 es
 
 -- a config that is refused ends the day at once
 abbrev pub started_text : ℕ → Reply → List ℕ → List (List ℕ) → List ℕ
-started_text most (Done n) xs es = lines most xs es
-started_text most (Refused r) xs es = refusal_text r ++ codes "\n"
+started_text most (Ok n) xs es = lines most xs es
+started_text most (Err r) xs es = refusal_text r ++ codes "\n"
 
 -- the day that a file says; a file without a config says none
 abbrev pub text_from : ℕ → Option (ℕ × ℕ) → List (List ℕ) → List ℕ

@@ -4,7 +4,6 @@ use Rattle.run.specs.Numbers.{decode}
 use Rattle.serial.specs.Serial.{Bench}
 use Rattle.queue.specs.Events.{event_in}
 use Rattle.queue.specs.Entry.{config}
-use Rattle.queue.specs.declared.reply.Reply.TheVariants.{Refused}
 use Rattle.promises.specs.Day.{logged, Truthful}
 use Rattle.promises.specs.Lent.{is_done}
 use Rattle.promises.specs.Promises.{AsSerial, AllTested}
@@ -36,7 +35,7 @@ abbrev pub Begins : ℕ → ℕ → ℕ → Result Day NotOpened → Type 0
 Begins b k most (Ok d) =
     (d.benches ≡ b) × (d.depth ≡ k) × (d.most ≡ most) × (log_of d ≡ []) × (numbers_of d ≡ (started b k).1) × (is_done (started b k).0 ≡ true)
 Begins b k most (Err not_opened.Memory) = Unit {0}
-Begins b k most (Err (not_opened.Refused r)) = (started b k).0 ≡ Refused r
+Begins b k most (Err (not_opened.Refused r)) = (started b k).0 ≡ Err r
 
 -- the config and the limit stay
 abbrev pub SameTerms : Day → Day → Type 0

@@ -1,8 +1,7 @@
 -- What the numbers of a day come from: an empty queue, and the events of the day's log. Assumes nothing: these are definitions.
 use Rattle.std.specs.Prelude.{ℕ, Bool, true, ◌&&◌, List, [], ◌∷◌, replicate}
 use Rattle.run.specs.Layout.{queue_length}
-use Rattle.queue.specs.Entry.{opened, stepped}
-use Rattle.queue.specs.declared.reply.Reply.{Reply}
+use Rattle.queue.specs.Entry.{Reply, opened, stepped}
 use Rattle.promises.specs.Lent.{is_done}
 
 -- the numbers in which a day opens its queue

@@ -1,15 +1,13 @@
 -- The text that is printed for an event: the state's line, or the refusal. Assumes nothing: these are definitions.
-use Rattle.std.specs.Prelude.{◌≡◌, ℕ, Bool, true, false, cond, List, [], ◌∷◌, ◌++◌, codes, decimal}
+use Rattle.std.specs.Prelude.{◌≡◌, ℕ, Bool, true, false, cond, List, [], ◌∷◌, ◌++◌, codes, decimal, Ok, Err}
 use Rattle.std.specs.List.{flat_map}
 use Rattle.std.specs.Fmt.{IsPlainFormatter, HasWritten}
 use Rattle.std.specs.declared.fmt.Formatter.{Formatter}
 use Rattle.change.specs.Change.{Change}
 use Rattle.run.specs.Run.{Run}
 use Rattle.run.specs.State.{Queue}
-use Rattle.queue.specs.Refusals.{refusal_code}
-use Rattle.queue.specs.declared.reply.Refusal.{Refusal}
-use Rattle.queue.specs.declared.reply.Reply.{Reply}
-use Rattle.queue.specs.declared.reply.Reply.TheVariants.{Done, Refused}
+use Rattle.queue.specs.Refusals.{refusal_text}
+use Rattle.queue.specs.Entry.{Reply}
 
 -- in a list of changes: a blank, and the change's number
 abbrev pub change_text : Change → List ℕ
@@ -42,11 +40,7 @@ line_text q =
     ++ (codes " out" ++ (flat_map run_text q.running
     ++ (codes " asked " ++ decimal q.requested))))))))
 
--- a refusal: its number, and its place
-abbrev pub refusal_text : Refusal → List ℕ
-refusal_text r = codes "refused " ++ (decimal (refusal_code r).number ++ (codes " at " ++ decimal (refusal_code r).place))
-
 -- what is printed once an event was answered: the state, or the refusal
 abbrev pub reply_text : Reply → Queue → List ℕ
-reply_text (Done n) q = line_text q
-reply_text (Refused r) q = refusal_text r
+reply_text (Ok n) q = line_text q
+reply_text (Err r) q = refusal_text r

@@ -1,10 +1,14 @@
 // Reads a day file: its config, and one event behind the other.
-ghost use Rattle.std.specs.Prelude.{◌≡◌, ◌≤◌, length};
+ghost use Rattle.std.specs.Prelude.{◌≡◌, ◌≤◌, ◌∷◌, length, replicate};
+ghost use Rattle.std.specs.Iterator.{YieldsFirst, item_count};
 ghost use Rattle.change.specs.Change.{most_parts};
 ghost use Rattle.change.specs.Records.{fixed};
-ghost use Rattle.day.specs.DayFile.{config_read, next_event, number_read, submission, withdrawal, report};
+ghost use Rattle.queue.specs.Stages.{kind_number};
+ghost use Rattle.day.specs.DayFile.{config_read, events_of, next_event, number_read, submission, withdrawal, report};
 
+use super::slices::past;
 use change::MOST_PARTS;
+use queue::Kind;
 use run::EVENT_LENGTH;
 
 // How many bytes the config takes, a submission in front of its parts, a withdrawal, and a report.
@@ -29,18 +33,35 @@ pub fn config_read(bytes: &[u8]) -> Option<(u64, u64)>
     Some((u64::from(bytes[0]), u64::from(bytes[1])))
 }
 
+// The events behind a config, up to the first that ends early or is of no known kind.
+#[derive(Drop)]
+pub struct Events<'a> {
+    pub rest: &'a [u8],
+}
+
+impl Iterator for Events<'_> {
+    type Item = [u64; EVENT_LENGTH];
+
+    ghost next_gives = { YieldsFirst (λ events. events_of events.rest.now) };
+
+    ghost remaining = { item_count (λ events. events_of events.rest.now) };
+
+    fn next(&mut self) -> Option<[u64; EVENT_LENGTH]> {
+        let next = next_event(self.rest)?;
+        let (taken, event) = next;
+        self.rest = past(self.rest, taken);
+        Some(event)
+    }
+}
+
 // The first event, and how many bytes it takes; none if it ends early or is of no known kind.
 pub fn next_event(bytes: &[u8]) -> Option<(usize, [u64; EVENT_LENGTH])>
     ensures { result ≡ next_event bytes.now }
 {
-    if bytes.is_empty() {
-        return None;
-    }
-    match bytes[0] {
-        0 => read_submission(bytes),
-        1 => read_withdrawal(bytes),
-        2 => read_report(bytes),
-        _ => None,
+    match Kind::try_from(u64::from(*bytes.first()?)).ok()? {
+        Kind::Submit => read_submission(bytes),
+        Kind::Withdraw => read_withdrawal(bytes),
+        Kind::Report => read_report(bytes),
     }
 }
 
@@ -55,11 +76,8 @@ fn read_submission(bytes: &[u8]) -> Option<(usize, [u64; EVENT_LENGTH])>
     if bytes.len() < taken {
         return None;
     }
-    let parts = padded(&bytes[SUBMIT_BYTES..taken]);
-    let mut event = [0; EVENT_LENGTH];
-    event[1] = number_read(bytes);
-    event[2] = u64::from(count);
-    event[PARTS_AT..EVENT_LENGTH].copy_from_slice(&parts);
+    let mut event = event_of(Kind::Submit, number_read(bytes), u64::from(count));
+    event[PARTS_AT..EVENT_LENGTH].copy_from_slice(&padded(&bytes[SUBMIT_BYTES..taken]));
     Some((taken, event))
 }
 
@@ -71,7 +89,7 @@ fn read_withdrawal(bytes: &[u8]) -> Option<(usize, [u64; EVENT_LENGTH])>
     }
     Some((
         WITHDRAW_BYTES,
-        [1, number_read(bytes), 0, 0, 0, 0, 0, 0, 0, 0, 0],
+        event_of(Kind::Withdraw, number_read(bytes), 0),
     ))
 }
 
@@ -83,7 +101,18 @@ fn read_report(bytes: &[u8]) -> Option<(usize, [u64; EVENT_LENGTH])>
     }
     let place = u64::from(bytes[1]);
     let value = u64::from(bytes[2]);
-    Some((REPORT_BYTES, [2, place, value, 0, 0, 0, 0, 0, 0, 0, 0]))
+    Some((REPORT_BYTES, event_of(Kind::Report, place, value)))
+}
+
+// The numbers of an event of this kind, 0 behind these.
+fn event_of(kind: Kind, number: u64, value: u64) -> [u64; EVENT_LENGTH]
+    ensures { result ≡ kind_number kind ∷ number ∷ value ∷ replicate most_parts 0 }
+{
+    let mut event = [0; EVENT_LENGTH];
+    event[0] = u64::from(kind);
+    event[1] = number;
+    event[2] = value;
+    event
 }
 
 // A change's number: four bytes behind the kind, low byte first.
@@ -99,8 +128,9 @@ fn padded(parts: &[u8]) -> [u64; MOST_PARTS]
     ensures { result ≡ fixed most_parts parts.now }
 {
     let mut all = [0; MOST_PARTS];
-    for i in 0..parts.len().min(MOST_PARTS) {
-        all[i] = u64::from(parts[i]);
+    // Not a `zip` with `all.iter_mut()`: nothing is known of `all` after one.
+    for (i, part) in parts[..parts.len().min(MOST_PARTS)].iter().enumerate() {
+        all[i] = u64::from(*part);
     }
     all
 }

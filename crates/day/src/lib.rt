@@ -13,5 +13,5 @@ pub use file::{config_read, next_event};
 pub use line::StateLine;
 pub use logged::{Day, NotOpened};
 pub use playing::{NotPlayed, UNLIMITED_CHANGES, USUAL_CHANGES, limits, play, play_events};
-pub use reply::{RefusalLine, ReplyLine};
+pub use reply::ReplyLine;
 pub use worked::{worked_file, worked_lines};

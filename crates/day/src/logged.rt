@@ -2,11 +2,13 @@
 ghost use Rattle.std.specs.Prelude.{◌≡◌, true};
 ghost use Rattle.promises.specs.Lent.{is_done, lent_day};
 ghost use Rattle.day.specs.Played.{all_taken, started};
+ghost use Rattle.day.specs.declared.logged.NotOpened.TheVariants.{Memory, Refused};
 
 mod methods;
 
 use queue::Refusal;
 use run::EVENT_LENGTH;
+use std::alloc::AllocError;
 
 // The queue is what the log gives from an empty queue of the config: this holds of every value that there ever is.
 #[derive(Drop)]
@@ -29,4 +31,20 @@ pub enum NotOpened {
     Memory,
     // The queue refuses the config.
     Refused(Refusal),
+}
+
+impl From<AllocError> for NotOpened {
+    ghost from_gives = { λ _ why. why ≡ Memory };
+
+    fn from(_none: AllocError) -> Self {
+        Self::Memory
+    }
+}
+
+impl From<Refusal> for NotOpened {
+    ghost from_gives = { λ refusal why. why ≡ Refused refusal };
+
+    fn from(refusal: Refusal) -> Self {
+        Self::Refused(refusal)
+    }
 }

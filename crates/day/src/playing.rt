@@ -4,13 +4,14 @@ ghost use Rattle.run.specs.Layout.{most_landed, most_rejected, most_waiting};
 ghost use Rattle.day.specs.Day.{Plays, day_text, ends, lines, printed, usual_changes};
 ghost use Rattle.day.specs.DayFile.{events_of};
 ghost use Rattle.day.specs.Logged.{Promised, numbers_of};
+ghost use Rattle.day.specs.declared.playing.NotPlayed.TheVariants.{Memory, Output};
 
-use super::file::{CONFIG_BYTES, config_read, next_event};
+use super::file::{CONFIG_BYTES, Events, config_read};
 use super::logged::{Day, NotOpened};
 use super::reply::ReplyLine;
 use super::slices::past;
 use queue::Reply;
-use std::alloc::Global;
+use std::alloc::{AllocError, Global};
 use std::fmt;
 
 // How many changes a day usually holds at most.
@@ -36,6 +37,22 @@ pub enum NotPlayed {
     Output,
 }
 
+impl From<AllocError> for NotPlayed {
+    ghost from_gives = { λ _ why. why ≡ Memory };
+
+    fn from(_none: AllocError) -> Self {
+        Self::Memory
+    }
+}
+
+impl From<fmt::Error> for NotPlayed {
+    ghost from_gives = { λ _ why. why ≡ Output };
+
+    fn from(_failed: fmt::Error) -> Self {
+        Self::Output
+    }
+}
+
 // Plays the day that a file says, which holds at most so many changes, and writes its text.
 pub fn play<W: fmt::Write>(
     f: &mut fmt::Formatter<W>,
@@ -50,10 +67,8 @@ pub fn play<W: fmt::Write>(
     };
     match Day::open(heap, benches, depth, most) {
         Ok(mut day) => play_events(f, &mut day, past(bytes, CONFIG_BYTES)),
-        Err(why) => match why {
-            NotOpened::Refused(refusal) => write_reply(f, Reply::Refused(refusal), &[]),
-            NotOpened::Memory => Err(NotPlayed::Memory),
-        },
+        Err(NotOpened::Refused(refusal)) => write_reply(f, Err(refusal), &[]),
+        Err(NotOpened::Memory) => Err(NotPlayed::Memory),
     }
 }
 
@@ -66,10 +81,8 @@ fn write_reply<W: fmt::Write>(
     ensures { Plays W.write_str_gives f.old result (printed (reply, queue.now)) f.new }
 {
     let line = ReplyLine { reply, queue };
-    match writeln!(f, "{line}") {
-        Ok(()) => Ok(()),
-        Err(_) => Err(NotPlayed::Output),
-    }
+    writeln!(f, "{line}")?;
+    Ok(())
 }
 
 // Applies one event after another, and writes the line of each. The promises hold of the day wherever it ends.
@@ -82,13 +95,9 @@ pub fn play_events<W: fmt::Write>(
     ensures after { OnOk result (numbers_of day.new ≡ ends day.old.most (numbers_of day.old) (events_of bytes.now)) }
     ensures promised { Promised day.new }
 {
-    let mut rest = bytes;
-    while let Some(next) = next_event(rest) {
-        let Ok(reply) = day.apply(next.1) else {
-            return Err(NotPlayed::Memory);
-        };
+    for event in (Events { rest: bytes }) {
+        let reply = day.apply(event)?;
         write_reply(f, reply, day.numbers())?;
-        rest = past(rest, next.0);
     }
     Ok(())
 }

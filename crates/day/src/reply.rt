@@ -1,10 +1,10 @@
 // What is printed once an event was answered.
 ghost use Rattle.std.specs.Prelude.{Some};
 ghost use Rattle.run.specs.Numbers.{decode};
-ghost use Rattle.day.specs.Text.{refusal_text, reply_text};
+ghost use Rattle.day.specs.Text.{reply_text};
 
 use super::line::StateLine;
-use queue::{Refusal, Reply};
+use queue::Reply;
 use std::fmt;
 
 // What `{}` writes of a reply and the queue's numbers after it: the state, or the refusal.
@@ -19,27 +19,11 @@ impl fmt::Display for ReplyLine<'_> {
 
     fn fmt<W: fmt::Write>(&self, f: &mut fmt::Formatter<W>) -> fmt::Result {
         match self.reply {
-            Reply::Done(_) => {
+            Ok(_) => {
                 let state = StateLine { queue: self.queue };
                 write!(f, "{state}")
             }
-            Reply::Refused(refusal) => {
-                let refusal = RefusalLine(refusal);
-                write!(f, "{refusal}")
-            }
+            Err(refusal) => write!(f, "{refusal}"),
         }
-    }
-}
-
-// What `{}` writes of a refusal.
-#[derive(Clone, Copy)]
-pub struct RefusalLine(pub Refusal);
-
-impl fmt::Display for RefusalLine {
-    ghost output = { λ l. Some (refusal_text l.0) };
-
-    fn fmt<W: fmt::Write>(&self, f: &mut fmt::Formatter<W>) -> fmt::Result {
-        let (number, place) = self.0.code();
-        write!(f, "refused {number} at {place}")
     }
 }

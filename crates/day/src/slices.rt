@@ -5,23 +5,19 @@ ghost use Rattle.std.specs.Prelude.{◌≡◌, take, drop, slice_index};
 pub fn number_at(numbers: &[u64], i: usize) -> u64
     ensures { result ≡ slice_index numbers.now i }
 {
-    if i < numbers.len() { numbers[i] } else { 0 }
+    numbers.get(i).copied().unwrap_or(0)
 }
 
 // What lies behind the first n.
 pub fn past<T>(items: &[T], n: usize) -> &[T]
     ensures { result.now ≡ drop n items.now }
 {
-    if n < items.len() { &items[n..] } else { &[] }
+    &items[n.min(items.len())..]
 }
 
 // The first n numbers, or all where there are fewer.
 pub fn first(numbers: &[u64], n: usize) -> &[u64]
     ensures { result.now ≡ take n numbers.now }
 {
-    if n < numbers.len() {
-        &numbers[0..n]
-    } else {
-        numbers
-    }
+    &numbers[..n.min(numbers.len())]
 }

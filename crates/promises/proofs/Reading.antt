@@ -1,10 +1,8 @@
 -- The day over lent numbers is the day on records, and takes the same events. Assumes nothing.
-use Rattle.std.proofs.Common.{◌≡◌, ℕ, zero, suc, ◌+◌, ◌<◌, ◌≤◌, Bool, true, false, cond, not, ◌&&◌, ltb, leb, ◌⊎◌, List, [], ◌∷◌, length, get_or, drop, Some, None, sym, refl, ap, ◌∙◌, subst, ap₂, subst₂, inl, inr, true≢false, arith}
+use Rattle.std.proofs.Common.{◌≡◌, ℕ, zero, suc, ◌+◌, ◌<◌, ◌≤◌, Bool, true, false, cond, not, ◌&&◌, ltb, leb, ◌⊎◌, List, [], ◌∷◌, length, get_or, drop, Some, None, sym, refl, ap, ◌∙◌, subst, ap₂, subst₂, inl, inr, true≢false, arith, Ok}
 use mathlib.Core.Bool.{and_assoc}
 use Rattle.std.proofs.lemmas.Bool.{lt-ltb, leb-true}
 use Rattle.std.proofs.lemmas.List.{get_or-drop}
-use Rattle.queue.specs.declared.reply.Reply.{Reply}
-use Rattle.queue.specs.declared.reply.Reply.TheVariants.{Done}
 use Rattle.queue.specs.declared.reply.Refusal.TheVariants.{Malformed, Benches, Depth, NumberUsed, Parts, NotWaiting, NotRunning, WaitingFull, LandedFull, RejectedFull, VerdictsFull, RequestsSpent}
 use Rattle.run.proofs.Round.{decode_encode}
 use Rattle.change.specs.Change.{most_parts, Change, numbered, fault}
@@ -15,7 +13,7 @@ use Rattle.run.specs.Numbers.{config_in, landed_in, waiting_in, rejected_in, dec
 use Rattle.queue.specs.Queue.{Event, used, fresh, proper, roomy, accepts, step, after, replayed}
 use Rattle.queue.specs.Events.{event_by, event_in}
 use Rattle.queue.specs.Refusals.{Check, then, length_check, benches_check, depth_check, number_check, parts_check, waits_check, place_check, room_check, verdicts_check, requests_check, kind_check, report_kind, front_check, refusal}
-use Rattle.queue.specs.Entry.{unless_refused, config, opened, stepped_to, stepped}
+use Rattle.queue.specs.Entry.{Reply, unless_refused, config, opened, stepped_to, stepped}
 use Rattle.promises.specs.Day.{logged}
 use Rattle.promises.specs.Promises.{AsSerial, AllTested}
 use Rattle.promises.specs.Lent.{is_done, lent_day, taken_events, AllAccepted, LentDays, parts_counted, well_formed, LentTaken, LentSerialEquivalence, LentEveryStateTested}
@@ -133,8 +131,8 @@ tests_event t q behind xs es l s =
         (tests_both (turned (tests_unless (benches_taken (get_or xs benches_at 0)) Benches) (ap (λ (u : Config). benches_taken u.benches) s.config_is ∙ l.benches))
         (tests_both (turned (tests_unless (depth_taken (get_or xs depth_at 0)) Depth) (ap (λ (u : Config). depth_taken u.depth) s.config_is ∙ l.depth)) (tests_unless form refused.Event)))
 
--- the reply is Done if the checks are passed
-done_is : (c : Check) (xs : List ℕ) (n : ℕ) (ys : List ℕ) → is_done (unless_refused c xs (Done n, ys)).0 ≡ passed c
+-- the reply is Ok if the checks are passed
+done_is : (c : Check) (xs : List ℕ) (n : ℕ) (ys : List ℕ) → is_done (unless_refused c xs (Ok n, ys)).0 ≡ passed c
 done_is None xs n ys = refl
 done_is (Some r) xs n ys = refl
 
@@ -200,7 +198,7 @@ opened_is slice b k e = (
     xs : List ℕ
     xs = encode (config b k) empty (drop queue_length slice)
 
-    go : (c : Check) → is_done (unless_refused c slice (Done 0, xs)).0 ≡ true → (unless_refused c slice (Done 0, xs)).1 ≡ xs
+    go : (c : Check) → is_done (unless_refused c slice (Ok 0, xs)).0 ≡ true → (unless_refused c slice (Ok 0, xs)).1 ≡ xs
     go None h = refl
     go (Some r) h = absurd (true≢false (sym h))
 

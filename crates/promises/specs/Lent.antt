@@ -1,7 +1,5 @@
 -- The day over lent numbers, and the first two promises over it. Assumes nothing: these are definitions.
-use Rattle.std.specs.Prelude.{◌≡◌, ℕ, zero, suc, Bool, true, false, cond, ◌&&◌, List, [], ◌∷◌, length, drop, nat_le, nat_lt, slice_index}
-use Rattle.queue.specs.declared.reply.Reply.{Reply}
-use Rattle.queue.specs.declared.reply.Reply.TheVariants.{Done, Refused}
+use Rattle.std.specs.Prelude.{◌≡◌, ℕ, zero, suc, Bool, true, false, cond, ◌&&◌, List, [], ◌∷◌, length, drop, nat_le, nat_lt, slice_index, Ok, Err}
 use Rattle.change.specs.Change.{most_parts}
 use Rattle.run.specs.Layout.{number_limit, queue_length, event_length}
 use Rattle.run.specs.State.{Config, Queue, empty}
@@ -10,14 +8,14 @@ use Rattle.serial.specs.Serial.{Bench}
 use Rattle.queue.specs.Queue.{Event, accepts, after, replayed}
 use Rattle.queue.specs.Events.{event_in}
 use Rattle.queue.specs.Refusals.{report_kind}
-use Rattle.queue.specs.Entry.{config, opened, stepped}
+use Rattle.queue.specs.Entry.{Reply, config, opened, stepped}
 use Rattle.promises.specs.Day.{logged, Truthful}
 use Rattle.promises.specs.Promises.{AsSerial, AllTested}
 
 -- the reply says that the event was taken
 abbrev pub is_done : Reply → Bool
-is_done (Done n) = true
-is_done (Refused r) = false
+is_done (Ok n) = true
+is_done (Err r) = false
 
 -- the numbers after these events, each of them numbers itself, stepped one after another
 unfoldable pub lent_day : List ℕ → List (List ℕ) → List ℕ

@@ -6,120 +6,86 @@ ghost use Rattle.promises.specs.Lent.{LentDays, LentTaken, LentSerialEquivalence
 ghost use Rattle.promises.specs.Wrong.{WrongQueues};
 
 // The decisions are those of serial testing, if the reports taken are what the bench says.
-pub fn serial_equivalence() -> u8
+pub fn serial_equivalence()
     ensures { SerialEquivalence }
-{
-    0
-}
+{}
 
 // Every state that a part ever had in the main line was reported good.
-pub fn every_state_tested() -> u8
+pub fn every_state_tested()
     ensures { EveryStateTested }
-{
-    0
-}
+{}
 
 // While a change waits, a run is running.
-pub fn never_idle() -> u8
+pub fn never_idle()
     ensures { NeverIdle }
-{
-    0
-}
+{}
 
 // A bench is free only if every useful run is running or known.
-pub fn fully_booked() -> u8
+pub fn fully_booked()
     ensures { FullyBooked }
-{
-    0
-}
+{}
 
 // At most as many runs run as there are benches, each useful, none twice.
-pub fn only_useful_runs() -> u8
+pub fn only_useful_runs()
     ensures { OnlyUsefulRuns }
-{
-    0
-}
+{}
 
 // If nothing is rejected or withdrawn, each part of each change is run once.
-pub fn each_run_once() -> u8
+pub fn each_run_once()
     ensures { EachRunOnce }
-{
-    0
-}
+{}
 
 // A rejection or a withdrawal wastes no more runs than are looked at.
-pub fn waste_bounded() -> u8
+pub fn waste_bounded()
     ensures { WasteBounded }
-{
-    0
-}
+{}
 
 // A change waits for its own runs only, unless one before it shares a part.
-pub fn decided_when_known() -> u8
+pub fn decided_when_known()
     ensures { DecidedWhenKnown }
-{
-    0
-}
+{}
 
 // The decisions do not depend on the number of benches or the depth.
-pub fn config_independent() -> u8
+pub fn config_independent()
     ensures { ConfigIndependent }
-{
-    0
-}
+{}
 
 // Landed changes keep their places, and the rejected stay.
-pub fn decisions_final() -> u8
+pub fn decisions_final()
     ensures { DecisionsFinal }
-{
-    0
-}
+{}
 
 // What a reachable queue holds fits its sections.
-pub fn verdicts_fit() -> u8
+pub fn verdicts_fit()
     ensures { VerdictsFit }
-{
-    0
-}
+{}
 
 // Every report that is taken makes a measure fall.
-pub fn progress() -> u8
+pub fn progress()
     ensures { Progress }
-{
-    0
-}
+{}
 
 // The day over lent numbers is the day on records.
-pub fn lent_days() -> u8
+pub fn lent_days()
     ensures { LentDays }
-{
-    0
-}
+{}
 
 // An event is taken over lent numbers exactly if it is taken on records and is well formed.
-pub fn lent_taken() -> u8
+pub fn lent_taken()
     ensures { LentTaken }
-{
-    0
-}
+{}
 
 // Serial equivalence, of what the numbers say.
-pub fn lent_serial_equivalence() -> u8
+pub fn lent_serial_equivalence()
     ensures { LentSerialEquivalence }
-{
-    0
-}
+{}
 
 // Every state was tested, of what the numbers say.
-pub fn lent_every_state_tested() -> u8
+pub fn lent_every_state_tested()
     ensures { LentEveryStateTested }
-{
-    0
-}
+{}
 
 // Six wrong queues each break a promise on a computed day.
-pub fn wrong_queues() -> u8
+pub fn wrong_queues()
     ensures { WrongQueues }
-{
-    0
-}
+{}

@@ -1,10 +1,8 @@
 -- Laws of checks made one after another: where one refuses, its refusal is the reply; where all pass, the event is taken.
 use Rattle.std.proofs.Common.{◌≡◌, ℕ, List, Some, None, Err, Result, ap, ◌∙◌, subst}
 use Rattle.queue.specs.Refusals.{Check, then}
-use Rattle.queue.specs.Entry.{Replies, unless_refused}
+use Rattle.queue.specs.Entry.{Reply, Replies, unless_refused}
 use Rattle.queue.specs.declared.reply.Refusal.{Refusal}
-use Rattle.queue.specs.declared.reply.Reply.{Reply}
-use Rattle.queue.specs.declared.reply.Reply.TheVariants.{Refused}
 
 -- the first of two checks refuses
 pub first : {r : Refusal} {k : Check} (d : Check) → Some r ≡ k → Some r ≡ then k d
@@ -17,7 +15,7 @@ next {x} {k} {d} e f = f ∙ ap (λ (y : Check). then y d) e
 -- the reply to a refusal
 pub stops : {A : Type 0} {c : Result A Refusal} {r : Refusal} {q : Reply} {k : Check} (xs : List ℕ) (t : Reply × List ℕ) → c ≡ Err r → Replies c q → Some r ≡ k → (q, xs) ≡ unless_refused k xs t
 stops {A} {c} {r} {q} xs t e f g =
-    let is : q ≡ Refused r = subst (λ (x : Result A Refusal). Replies x q) e f in
+    let is : q ≡ Err r = subst (λ (x : Result A Refusal). Replies x q) e f in
     ap (λ (x : Reply). (x, xs)) is ∙ ap (λ (x : Check). unless_refused x xs t) g
 
 -- no check refuses

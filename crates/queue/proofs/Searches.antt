@@ -1,45 +1,42 @@
 -- Laws of the searches through records that the checks make.
-use Rattle.std.proofs.Common.{◌≡◌, ℕ, zero, suc, ◌+◌, ◌-◌, ◌*◌, ◌<◌, ◌≤◌, Bool, true, false, cond, not, ◌||◌, leb, List, length, get_or, drop, is_some, Some, None, Option, sym, refl, ap, ◌∙◌, subst, mul-zero, mul-suc, mul-add, arith}
+use Rattle.std.proofs.Common.{◌≡◌, ℕ, zero, suc, ◌+◌, ◌*◌, ◌<◌, ◌≤◌, Bool, true, false, cond, ◌||◌, leb, List, length, get_or, drop, is_some, Some, None, Option, sym, refl, ap, ◌∙◌, subst, true≢false, mul-zero, mul-suc, arith}
+use Rattle.std.specs.Option.{option_map}
 use Rattle.std.proofs.lemmas.List.{get_or-drop}
 use Rattle.std.proofs.lemmas.Bool.{leb-true}
-use Rattle.change.specs.Change.{Change, line, numbered, place_of}
+use Rattle.change.specs.Change.{Change, line, place_of}
 use Rattle.change.specs.Records.{changes_in}
 use Rattle.change.proofs.ChangeLaws.{place_numbered}
-use Rattle.run.specs.Numbers.{Begins, landed_in, waiting_in, rejected_in}
-use Rattle.queue.specs.Refusals.{over, overlong, unless, number_check, waits_check}
-use Rattle.queue.specs.declared.reply.Refusal.TheVariants.{NumberUsed, NotWaiting}
+use Rattle.run.specs.Numbers.{Begins, waiting_in}
+use Rattle.queue.specs.Refusals.{overlong, unless, waits_check}
+use Rattle.queue.specs.declared.reply.Refusal.TheVariants.{NotWaiting}
 
--- what is left of n records of width w shrinks by one record a turn
-pub left_more : (w n i at end : ℕ) → i < n → at + w * (n - i) ≡ end → at + w + w * (n - (i + 1)) ≡ end
-left_more w n i at end lt e =
-    let k : n - i ≡ 1 + (n - (i + 1)) = omega arith in
-    let m : w * (n - i) ≡ w + w * (n - (i + 1)) = ap (λ u. w * u) k ∙ omega (arith, mul-add w 1 (n - (i + 1))) in
-    omega arith
+-- a search through n records of width w from `at` on, which ends at the first that fails a test
+module _ (w : ℕ) (ok : ℕ → Bool) (out : ℕ → ℕ) (search_of : ℕ → ℕ → Option ℕ) (none : (at : ℕ) → search_of 0 at ≡ None)
+    (next : (n at : ℕ) → search_of (suc n) at ≡ cond (ok at) (search_of n (at + w)) (Some (out at))) where
+  later : (n at : ℕ) → ok at ≡ true → search_of (suc n) at ≡ search_of n (at + w)
+  later n at e = next n at ∙ ap (λ b. cond b (search_of n (at + w)) (Some (out at))) e
 
--- and the next record ends before all do
-pub next_inside : (w n i at end : ℕ) → i < n → at + w * (n - i) ≡ end → at + w ≤ end
-next_inside w n i at end lt e = omega (arith, left_more w n i at end lt e)
+  moved : (k at : ℕ) (b : Bool) → ok (at + w * suc k) ≡ b → ok (at + w + w * k) ≡ b
+  moved k at b e = ap ok (omega (arith, mul-suc w k)) ∙ e
 
--- a search through the records from `at` on, of which n - i are left
-module _ (w field most n i at : ℕ) (xs : List ℕ) (lt : i < n) where
-  open_over : over w field most (n - i) at xs ≡ cond (leb (get_or xs (at + field) 0) most) (over w field most (n - (i + 1)) (at + w) xs) (Some (at + field))
-  open_over = let k : n - i ≡ suc (n - (i + 1)) = omega arith in ap (λ u. over w field most u at xs) k
+  first_ok : (at : ℕ) (b : Bool) → ok (at + w * 0) ≡ b → ok at ≡ b
+  first_ok at b e = ap ok (omega (arith, mul-zero w)) ∙ e
 
-  pub over_here : leb (get_or xs (at + field) 0) most ≡ false → over w field most (n - i) at xs ≡ Some (at + field)
-  over_here e = open_over ∙ ap (λ b. cond b (over w field most (n - (i + 1)) (at + w) xs) (Some (at + field))) e
+  pub all_pass : (n at : ℕ) → ((k : ℕ) → k < n → ok (at + w * k) ≡ true) → search_of n at ≡ None
+  all_pass zero at h = none at
+  all_pass (suc n) at h = later n at (first_ok at true (h 0 (omega arith))) ∙ all_pass n (at + w) (λ k lt. moved k at true (h (suc k) (omega arith)))
 
-  pub over-later : leb (get_or xs (at + field) 0) most ≡ true → over w field most (n - i) at xs ≡ over w field most (n - (i + 1)) (at + w) xs
-  over-later e = open_over ∙ ap (λ b. cond b (over w field most (n - (i + 1)) (at + w) xs) (Some (at + field))) e
+  pub one_fails : (i n at : ℕ) → i < n → ok (at + w * i) ≡ false → ((k : ℕ) → k < i → ok (at + w * k) ≡ true) → search_of n at ≡ Some (out (at + w * i))
+  one_fails i zero at lt e h = absurd (omega arith)
+  one_fails zero (suc n) at lt e h =
+      next n at ∙ ap (λ b. cond b (search_of n (at + w)) (Some (out at))) (first_ok at false e) ∙ ap (λ u. Some (out u)) (omega (arith, mul-zero w))
+  one_fails (suc i) (suc n) at lt e h =
+      later n at (first_ok at true (h 0 (omega arith))) ∙ one_fails i n (at + w) (omega arith) (moved i at false e) (λ k l. moved k at true (h (suc k) (omega arith)))
+      ∙ ap (λ u. Some (out u)) (omega (arith, mul-suc w i))
 
-module _ (landed : List Change) (w n i at : ℕ) (xs : List ℕ) (lt : i < n) where
-  open_overlong : overlong landed w (n - i) at xs ≡ cond (leb (get_or xs (at + 1) 0) (length (line (get_or xs at 0) landed))) (overlong landed w (n - (i + 1)) (at + w) xs) (Some at)
-  open_overlong = let k : n - i ≡ suc (n - (i + 1)) = omega arith in ap (λ u. overlong landed w u at xs) k
-
-  pub overlong_here : leb (get_or xs (at + 1) 0) (length (line (get_or xs at 0) landed)) ≡ false → overlong landed w (n - i) at xs ≡ Some at
-  overlong_here e = open_overlong ∙ ap (λ b. cond b (overlong landed w (n - (i + 1)) (at + w) xs) (Some at)) e
-
-  pub overlong-later : leb (get_or xs (at + 1) 0) (length (line (get_or xs at 0) landed)) ≡ true → overlong landed w (n - i) at xs ≡ overlong landed w (n - (i + 1)) (at + w) xs
-  overlong-later e = open_overlong ∙ ap (λ b. cond b (overlong landed w (n - (i + 1)) (at + w) xs) (Some at)) e
+pub none_mapped : {A B : Type 0} (f : A → B) (o : Option A) → None ≡ option_map f o → o ≡ None
+none_mapped f None e = refl
+none_mapped f (Some x) e = absurd (true≢false (sym (ap is_some e)))
 
 -- where none is overlong, every run begins with no more landed changes than its part has
 pub all_begin : (landed : List Change) (w n at : ℕ) (xs : List ℕ) → overlong landed w n at xs ≡ None → (k : ℕ) → k < n → Begins landed (drop (at + w * k) xs)
@@ -57,10 +54,12 @@ all_begin landed w (suc n) at xs e k lt = go (leb (get_or xs (at + 1) 0) (length
     go true f none ih (suc k) lt =
         subst (λ (u : ℕ). Begins landed (drop u xs)) (omega (arith, mul-suc w k)) (ih none k (omega arith))
 
--- whether a number is used, by its three sections
-pub number_by : (xs : List ℕ) (n : ℕ) (a b c : Bool) → numbered n (landed_in xs) ≡ a → numbered n (waiting_in xs) ≡ b → numbered n (rejected_in xs) ≡ c →
-    number_check xs n ≡ unless (not (a || (b || c))) (NumberUsed n)
-number_by xs n a b c e f g = λ i. unless (not (e i || (f i || g i))) (NumberUsed n)
+-- whether one of two tests passes, where the first does, and where the second decides
+pub or_first : (a b v : Bool) → a ≡ true → v ≡ true → v ≡ (a || b)
+or_first a b v e f = f ∙ sym (ap (λ x. x || b) e)
+
+pub or_second : (a b v : Bool) → a ≡ false → v ≡ b → v ≡ (a || b)
+or_second a b v e f = f ∙ sym (ap (λ x. x || b) e)
 
 -- what is asked of a section is asked of as many changes as its count says
 pub counted : {B : Type 0} (P : List Change → B) (k m : ℕ) (xs : List ℕ) (b : B) → k ≡ m → b ≡ P (changes_in k xs) → P (changes_in m xs) ≡ b

@@ -7,18 +7,20 @@ use Rattle.run.specs.Numbers.{config_in, decode, encode}
 use Rattle.queue.specs.Events.{event_by, event_in}
 use Rattle.queue.specs.Refusals.{Check, then, length_check, benches_check, depth_check, kind_check, refusal, report_kind}
 use Rattle.queue.specs.declared.reply.Refusal.{Refusal}
-use Rattle.queue.specs.declared.reply.Reply.{Reply}
-use Rattle.queue.specs.declared.reply.Reply.TheVariants.{Done, Refused}
+
+-- what the queue answers to an event: how many runs are running once it was taken, or why it was turned away
+abbrev pub Reply : Type 0
+Reply = Result ℕ Refusal
 
 -- a refusal leaves the numbers as they were
 abbrev pub unless_refused : Check → List ℕ → Reply × List ℕ → Reply × List ℕ
 unless_refused None xs taken = taken
-unless_refused (Some r) xs taken = (Refused r, xs)
+unless_refused (Some r) xs taken = (Err r, xs)
 
 -- the reply to a check's refusal
 abbrev pub Replies : {A : Type 0} → Result A Refusal → Reply → Type 0
-Replies (Ok x) q = q ≡ Done 0
-Replies (Err r) q = q ≡ Refused r
+Replies (Ok x) q = q ≡ Ok 0
+Replies (Err r) q = q ≡ Err r
 
 -- opening writes an empty queue of the config
 abbrev pub config : ℕ → ℕ → Config
@@ -26,11 +28,11 @@ config b k = record { benches = b; depth = k }
 
 abbrev pub opened : List ℕ → ℕ → ℕ → Reply × List ℕ
 opened xs b k =
-    unless_refused (then (length_check xs) (then (benches_check b) (depth_check k))) xs (Done 0, encode (config b k) empty (drop queue_length xs))
+    unless_refused (then (length_check xs) (then (benches_check b) (depth_check k))) xs (Ok 0, encode (config b k) empty (drop queue_length xs))
 
 -- THE STEP ON NUMBERS. The first refusal that applies; else the numbers of the state that the step gives.
 abbrev pub stepped_to : Config → Queue → List ℕ → Reply × List ℕ
-stepped_to t q behind = (Done (length q.running), encode t q behind)
+stepped_to t q behind = (Ok (length q.running), encode t q behind)
 
 unfoldable pub stepped : List ℕ → List ℕ → Reply × List ℕ
 stepped xs es =

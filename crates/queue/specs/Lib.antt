@@ -1,6 +1,6 @@
 pub mod Queue
 pub mod Events
-pub mod Stages
 pub mod Refusals
+pub mod Stages
 pub mod Entry
 pub mod WorkedDay

@@ -1,5 +1,5 @@
 -- Which refusal a lent queue and an event meet first. Assumes nothing: these are definitions.
-use Rattle.std.specs.Prelude.{ℕ, zero, suc, ◌+◌, Bool, cond, not, ◌&&◌, List, length, drop, Some, None, Ok, Err, Option, Result, nat_le, nat_lt, slice_index}
+use Rattle.std.specs.Prelude.{ℕ, zero, suc, ◌+◌, Bool, cond, not, ◌&&◌, List, ◌++◌, length, drop, codes, decimal, Some, None, Ok, Err, Option, Result, nat_le, nat_lt, slice_index}
 use Rattle.std.specs.Option.{option_map}
 use Rattle.change.specs.Change.{Change, most_parts, line, numbered, fault}
 use Rattle.change.specs.Records.{change_in, change_width}
@@ -33,6 +33,10 @@ refusal_code LandedFull = code 9 1
 refusal_code RejectedFull = code 9 2
 refusal_code VerdictsFull = code 10 0
 refusal_code RequestsSpent = code 10 1
+
+-- what is printed of a refusal: its number, and its place
+abbrev pub refusal_text : Refusal → List ℕ
+refusal_text r = codes "refused " ++ (decimal (refusal_code r).number ++ (codes " at " ++ decimal (refusal_code r).place))
 
 -- a check refuses or does not
 abbrev pub Check : Type 0

@@ -1,9 +1,12 @@
 -- The stages of a step on lent numbers: what the checks found, and what the numbers say after each stage.
-use Rattle.std.specs.Prelude.{◌≡◌, ℕ, ◌+◌, ◌<◌, ◌≤◌, List, drop, slice_index, slice_index_or}
+use Rattle.std.specs.Prelude.{◌≡◌, ℕ, ◌+◌, ◌<◌, ◌≤◌, List, drop, Result, nat_le, slice_index, slice_index_or}
 use Rattle.run.specs.Layout.{most_benches, most_depth, benches_at, depth_at, most_landed, most_waiting, most_rejected, landed_count, waiting_count, rejected_count, verdicts_count, running_count, queue_length}
 use Rattle.run.specs.State.{Queue}
 use Rattle.change.specs.Records.{Tallies}
 use Rattle.run.specs.Numbers.{config_in, decode, landed_in, RunsFit, Settled}
+use Rattle.queue.specs.Refusals.{Hands, check_of, report_kind, unless}
+use Rattle.queue.specs.declared.reply.Refusal.{Refusal}
+use Rattle.queue.specs.declared.reply.Refusal.TheVariants.{Event}
 use Rattle.queue.specs.declared.counts.Counts.{Counts}
 use Rattle.queue.specs.declared.kind.Kind.{Kind}
 use Rattle.queue.specs.declared.kind.Kind.TheVariants.{Submit, Withdraw, Report}
@@ -13,6 +16,10 @@ abbrev pub kind_number : Kind → ℕ
 kind_number Submit = 0
 kind_number Withdraw = 1
 kind_number Report = 2
+
+-- the kind that a number says, if it says one
+abbrev pub KindOf : ℕ → Result Kind Refusal → Type 0
+KindOf n r = (check_of r ≡ unless (nat_le n report_kind) Event) × Hands r (λ k. kind_number k ≡ n)
 
 -- these are the counts of the five sections
 pub record Counted (xs : List ℕ) (n : Counts) : Type 0 where

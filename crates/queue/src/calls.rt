@@ -4,6 +4,7 @@ ghost use Rattle.change.specs.Records.{change_of, change_row};
 ghost use Rattle.queue.specs.Entry.{stepped};
 
 use super::entry::apply;
+use super::kind::Kind;
 use super::reply::Reply;
 use change::Change;
 use run::EVENT_LENGTH;
@@ -12,7 +13,8 @@ use run::EVENT_LENGTH;
 pub fn submit(queue: &mut [u64], c: Change) -> Reply
     ensures { (result, queue.new) ≡ stepped queue.old (0 ∷ change_row (change_of c)) }
 {
-    let mut event = [0u64; EVENT_LENGTH];
+    let mut event = [0; EVENT_LENGTH];
+    event[0] = u64::from(Kind::Submit);
     change::write_change(&mut event[1..EVENT_LENGTH], c);
     apply(queue, &event)
 }
@@ -21,8 +23,8 @@ pub fn submit(queue: &mut [u64], c: Change) -> Reply
 pub fn withdraw(queue: &mut [u64], number: u64) -> Reply
     ensures { (result, queue.new) ≡ stepped queue.old (1 ∷ number ∷ replicate 9 0) }
 {
-    let mut event = [0u64; EVENT_LENGTH];
-    event[0] = 1;
+    let mut event = [0; EVENT_LENGTH];
+    event[0] = u64::from(Kind::Withdraw);
     event[1] = number;
     apply(queue, &event)
 }
@@ -31,8 +33,8 @@ pub fn withdraw(queue: &mut [u64], number: u64) -> Reply
 pub fn report(queue: &mut [u64], place: u64, good: bool) -> Reply
     ensures { (result, queue.new) ≡ stepped queue.old (2 ∷ place ∷ (if good then 1 else 0) ∷ replicate 8 0) }
 {
-    let mut event = [0u64; EVENT_LENGTH];
-    event[0] = 2;
+    let mut event = [0; EVENT_LENGTH];
+    event[0] = u64::from(Kind::Report);
     event[1] = place;
     event[2] = u64::from(good);
     apply(queue, &event)

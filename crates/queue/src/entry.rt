@@ -1,4 +1,5 @@
 // Opening a lent queue, and applying an event to it.
+// The user asked for this form of an entry: each check hands on its value, or the call leaves by `let .. else`.
 ghost use Rattle.std.specs.Prelude.{◌≡◌, ◌<◌, ◌≤◌, length, drop, slice_index};
 ghost use Rattle.plan.specs.Numbers.{Ready};
 ghost use Rattle.plan.specs.Plan.{planned};
@@ -11,6 +12,7 @@ ghost use Rattle.run.specs.Numbers.{config_in, decode};
 
 use super::checked::Checked;
 use super::checks::*;
+use super::held::Held;
 use super::kind::Kind;
 use super::recording;
 use super::reply::{Refusal, Reply};
@@ -37,7 +39,7 @@ pub fn open(queue: &mut [u64], benches: u64, depth: u64) -> Reply
     numbers.fill(0);
     queue[BENCHES_AT] = benches;
     queue[DEPTH_AT] = depth;
-    Reply::Done(0)
+    Ok(0)
 }
 
 // Applies an event to a queue: it is recorded, what can be decided is decided, and runs are requested.
@@ -74,21 +76,18 @@ fn check_queue(queue: &[u64]) -> Result<Checked, Refusal>
     ensures hands { Hands result (λ c. Found queue.now c.counts c.tally) }
 {
     let _length = check_length(queue)?;
-    let counts = check_counts(queue)?;
-    let counts = check_records(queue, counts)?;
-    let counts = check_sums(queue, counts)?;
-    let tally = check_runs(queue, counts)?;
+    let held = check_counts(queue)?;
+    let _records = held.check_records()?;
+    let counts = held.check_sums()?;
+    let tally = held.check_runs()?;
     Ok(Checked { counts, tally })
 }
 
 // The refusal with which a check left.
-fn refused<T: Drop>(r: Result<T, Refusal>) -> Reply
-    ensures { Replies r result }
+fn refused<T: Drop>(checked: Result<T, Refusal>) -> Reply
+    ensures { Replies checked result }
 {
-    match r {
-        Ok(_) => Reply::Done(0),
-        Err(e) => Reply::Refused(e),
-    }
+    checked.map(|_| 0)
 }
 
 // A change is submitted.
@@ -99,7 +98,8 @@ fn submit(queue: &mut [u64], found: Checked, event: &[u64]) -> Reply
     ensures { (result, queue.new) ≡ stepped_kind 0 queue.old event.now }
 {
     let counts = found.counts;
-    let number = check_number(queue, counts, event[1]);
+    let held = Held { queue, counts };
+    let number = held.check_number(event[1]);
     let Ok(_number) = number else {
         return refused(number);
     };
@@ -107,11 +107,11 @@ fn submit(queue: &mut [u64], found: Checked, event: &[u64]) -> Reply
     let Ok(change) = formed else {
         return refused(formed);
     };
-    let room = check_room(queue, counts);
+    let room = held.check_room();
     let Ok(_place) = room else {
         return refused(room);
     };
-    let requests = check_requests(queue);
+    let requests = held.check_requests();
     let Ok(_requests) = requests else {
         return refused(requests);
     };
@@ -127,12 +127,13 @@ fn withdraw(queue: &mut [u64], found: Checked, event: &[u64]) -> Reply
     ensures { (result, queue.new) ≡ stepped_kind 1 queue.old event.now }
 {
     let counts = found.counts;
+    let held = Held { queue, counts };
     let number = event[1];
-    let waits = check_waits(queue, counts, number);
+    let waits = held.check_waits(number);
     let Ok(place) = waits else {
         return refused(waits);
     };
-    let requests = check_requests(queue);
+    let requests = held.check_requests();
     let Ok(_requests) = requests else {
         return refused(requests);
     };
@@ -148,15 +149,16 @@ fn report(queue: &mut [u64], found: Checked, event: &[u64]) -> Reply
     ensures { (result, queue.new) ≡ stepped_kind 2 queue.old event.now }
 {
     let counts = found.counts;
-    let running = check_place(queue, counts, event[1]);
+    let held = Held { queue, counts };
+    let running = held.check_place(event[1]);
     let Ok(place) = running else {
         return refused(running);
     };
-    let verdicts = check_verdicts(queue, counts);
+    let verdicts = held.check_verdicts();
     let Ok(_held) = verdicts else {
         return refused(verdicts);
     };
-    let requests = check_requests(queue);
+    let requests = held.check_requests();
     let Ok(_requests) = requests else {
         return refused(requests);
     };
@@ -172,5 +174,5 @@ fn advance(queue: &mut [u64], mut tally: [u64; PARTS]) -> Reply
 {
     decide::pass(queue, &mut tally);
     plan::plan_runs(queue, &tally);
-    Reply::Done(queue[RUNNING_COUNT])
+    Ok(queue[RUNNING_COUNT])
 }

@@ -3,22 +3,16 @@ ghost use Rattle.run.specs.Numbers.{DecodeEncode, EncodeDecode};
 ghost use Rattle.queue.specs.WorkedDay.{WorkedDay};
 
 // Decoding what was encoded gives it back.
-pub fn decode_of_encode() -> u8
+pub fn decode_of_encode()
     ensures { DecodeEncode }
-{
-    0
-}
+{}
 
 // A tidy queue is what encoding its decoding gives.
-pub fn encode_of_decode() -> u8
+pub fn encode_of_decode()
     ensures { EncodeDecode }
-{
-    0
-}
+{}
 
 // The definitions give the worked day.
-pub fn worked_day() -> u8
+pub fn worked_day()
     ensures { WorkedDay }
-{
-    0
-}
+{}

@@ -6,6 +6,7 @@ mod checked;
 mod checks;
 mod counts;
 mod entry;
+mod held;
 mod kind;
 mod laws;
 mod recording;
@@ -13,5 +14,6 @@ mod reply;
 
 pub use calls::{report, submit, withdraw};
 pub use entry::{apply, open};
+pub use kind::Kind;
 pub use laws::{decode_of_encode, encode_of_decode, worked_day};
 pub use reply::{Refusal, Reply};

@@ -1,6 +1,8 @@
 // What the queue answers to an event.
-ghost use Rattle.std.specs.Prelude.{◌≡◌};
-ghost use Rattle.queue.specs.Refusals.{refusal_code};
+ghost use Rattle.std.specs.Prelude.{◌≡◌, Some};
+ghost use Rattle.queue.specs.Refusals.{refusal_code, refusal_text};
+
+use std::fmt;
 
 // Why an event is turned away. Its number and place are those of the definition `refusal_code`.
 #[derive(Clone, Copy, PartialEq, Eq)]
@@ -33,13 +35,8 @@ pub enum Refusal {
     RequestsSpent,
 }
 
-#[derive(Clone, Copy, PartialEq, Eq)]
-pub enum Reply {
-    // The event was taken; so many runs are running now.
-    Done(u64),
-    // The event was turned away, and the queue is as it was.
-    Refused(Refusal),
-}
+// The event was taken, and so many runs are running now; or it was turned away, and the queue is as it was.
+pub type Reply = Result<u64, Refusal>;
 
 impl Refusal {
     // The refusal's number and its place.
@@ -62,5 +59,15 @@ impl Refusal {
             Refusal::VerdictsFull => (10, 0),
             Refusal::RequestsSpent => (10, 1),
         }
+    }
+}
+
+// What `{}` writes of a refusal.
+impl fmt::Display for Refusal {
+    ghost output = { λ refusal. Some (refusal_text refusal) };
+
+    fn fmt<W: fmt::Write>(&self, f: &mut fmt::Formatter<W>) -> fmt::Result {
+        let (number, place) = self.code();
+        write!(f, "refused {number} at {place}")
     }
 }

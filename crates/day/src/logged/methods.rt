@@ -7,34 +7,24 @@ ghost use Rattle.day.specs.Logged.{Begins, Promised, SameTerms, log_of, numbers_
 
 use super::super::slices::number_at;
 use super::{Day, NotOpened};
-use queue::{Refusal, Reply};
+use queue::{Kind, Refusal, Reply};
 use run::{EVENT_LENGTH, LANDED_COUNT, QUEUE_LENGTH, REJECTED_COUNT, WAITING_COUNT};
 use std::alloc::{AllocError, Global};
-
-// The kind of an event that submits a change.
-const SUBMIT: u64 = 0;
-
-// The refusals for want of a place have numbers from here on.
-const FIRST_FULL: u64 = 9;
 
 impl Day {
     // Begins a day with an empty queue of the config; it is to hold at most so many changes.
     pub fn open(heap: Global, benches: u64, depth: u64, most: u64) -> Result<Day, NotOpened>
         ensures { Begins benches depth most result }
     {
-        let Ok(mut numbers) = vec![in heap; 0; QUEUE_LENGTH] else {
-            return Err(NotOpened::Memory);
-        };
-        match queue::open(&mut numbers, benches, depth) {
-            Reply::Done(_) => Ok(Day {
-                benches,
-                depth,
-                most,
-                numbers,
-                log: Vec::new(heap),
-            }),
-            Reply::Refused(refusal) => Err(NotOpened::Refused(refusal)),
-        }
+        let mut numbers = vec![in heap; 0; QUEUE_LENGTH]?;
+        queue::open(&mut numbers, benches, depth)?;
+        Ok(Day {
+            benches,
+            depth,
+            most,
+            numbers,
+            log: Vec::new(heap),
+        })
     }
 
     // The queue's numbers.
@@ -52,11 +42,9 @@ impl Day {
     }
 
     // Of every day, whatever was applied to it: the two promises hold. It says so and does nothing.
-    pub fn keeps_promises(&self) -> u8
+    pub fn keeps_promises(&self)
         ensures { Promised self.now }
-    {
-        0
-    }
+    {}
 
     // Applies an event, which joins the log if it is taken; want of memory and a refusal leave all as it was.
     // What was promised of whole days holds of this day, before and after.
@@ -83,9 +71,8 @@ impl Day {
     {
         self.log.reserve(1)?;
         let reply = queue::apply(&mut self.numbers, &event);
-        match reply {
-            Reply::Done(_) => self.log.push_reserved(event),
-            Reply::Refused(_) => {}
+        if reply.is_ok() {
+            self.log.push_reserved(event);
         }
         Ok(reply)
     }
@@ -98,7 +85,7 @@ impl Day {
         let landed = u128::from(number_at(queue, LANDED_COUNT));
         let waiting = u128::from(number_at(queue, WAITING_COUNT));
         let rejected = u128::from(number_at(queue, REJECTED_COUNT));
-        kind == SUBMIT && u128::from(self.most) <= landed + waiting + rejected
+        kind == u64::from(Kind::Submit) && u128::from(self.most) <= landed + waiting + rejected
     }
 
     // What a full day answers to a submission. A copy is asked, since the queue itself must not take the event.
@@ -115,13 +102,15 @@ impl Day {
 fn one_too_many(reply: Reply) -> Reply
     ensures { result ≡ turned_away reply }
 {
-    let Reply::Refused(refusal) = reply else {
-        return Reply::Refused(Refusal::WaitingFull);
-    };
-    let code = refusal.code();
-    if code.0 < FIRST_FULL {
-        Reply::Refused(refusal)
-    } else {
-        Reply::Refused(Refusal::WaitingFull)
+    match reply {
+        Ok(_)
+        | Err(
+            Refusal::WaitingFull
+            | Refusal::LandedFull
+            | Refusal::RejectedFull
+            | Refusal::VerdictsFull
+            | Refusal::RequestsSpent,
+        ) => Err(Refusal::WaitingFull),
+        Err(refusal) => Err(refusal),
     }
 }

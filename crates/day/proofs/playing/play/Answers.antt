@@ -1,9 +1,7 @@
-use Rattle.std.proofs.Common.{ℕ, List, Err, sym, ap, ◌∙◌, subst}
+use Rattle.std.proofs.Common.{ℕ, List, sym, ap, ◌∙◌}
 use Rattle.std.proofs.Output.{writes_in_calls_nil, has_written_of_eq}
 use Rattle.day.specs.Day.{lines}
 use Rattle.day.specs.DayFile.{events_of}
-use Rattle.day.specs.Logged.{Begins}
-use Rattle.day.specs.declared.logged.NotOpened.{NotOpened}
 use Rattle.day.proofs.Days.{text_none, text-done, text_refused}
 use Rattle.day.proofs.playing.play.Goals as goal
 
@@ -24,8 +22,7 @@ returns-in-Ok g c p ok =
     (ap (λ (m : ℕ). lines m d.numbers.items (events_of c.past.result.now)) begins.2 ∙ ap (λ (l : List ℕ). lines most d.numbers.items (events_of l)) c.past.ensures ∙ sym whole)
     (c.play_events.ensures.text p ok)
 
-pub returns-in-Refused : goal.returns-in-Refused
-returns-in-Refused g c p ok =
+pub returns-in-Err-Refused : goal.returns-in-Err-Refused
+returns-in-Err-Refused g c p ok =
     let t : ℕ × ℕ = (c.in-Some.benches, c.in-Some.depth) in
-    let why = subst (λ (w : NotOpened). Begins t.0 t.1 c.args.most (Err w)) c.in-Refused.is c.in-Err.ensures in
-    has_written_of_eq g.W.Write.write_str_gives _ _ _ _ (sym (text_refused c.args.most c.args.bytes.now t (sym c.in-Some.ensures) c.in-Refused.refusal why)) (c.write_reply.ensures p ok)
+    has_written_of_eq g.W.Write.write_str_gives _ _ _ _ (sym (text_refused c.args.most c.args.bytes.now t (sym c.in-Some.ensures) c.in-Err-Refused.refusal (rw c.in-Err-Refused.field-0-is at c.in-Err-Refused.ensures))) (c.write_reply.ensures p ok)

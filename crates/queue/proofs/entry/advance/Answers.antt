@@ -1,8 +1,7 @@
-use Rattle.std.proofs.Common.{length, get_or, ap, ◌∙◌, arith}
+use Rattle.std.proofs.Common.{length, get_or, ap, ◌∙◌, arith, Ok}
 use Rattle.run.specs.Layout.{benches_at, depth_at, requested_at}
 use Rattle.run.specs.Numbers.{encode}
 use Rattle.plan.specs.Plan.{planned}
-use Rattle.queue.specs.declared.reply.Reply.TheVariants.{Done}
 use Rattle.queue.proofs.Advanced.{says_passed}
 use Rattle.queue.proofs.entry.advance.Goals as goal
 
@@ -27,4 +26,4 @@ returns c =
     let said = says_passed c.args.queue.now c.pass.new.queue c.pass.ensures.settled c.pass.ensures.state c.pass.ensures.passed c.pass.ensures.behind in
     let is = c.plan_runs.ensures.is ∙ (λ i. encode (said.config i) (planned (said.config i) (said.state i)) (said.behind i)) in
     let running = c.plan_runs.ensures.running ∙ (λ i. length (planned (said.config i) (said.state i)).running) in
-    λ i. (Done (running i), is i)
+    λ i. (Ok (running i), is i)

@@ -1,4 +1,4 @@
-use Rattle.std.proofs.Common.{ℕ, ◌-◌, List, ap, ◌∙◌, arith, rules}
+use Rattle.std.proofs.Common.{ℕ, ◌-◌, List, ap, ◌∙◌, rules}
 use Rattle.change.specs.Change.{Change, dropped}
 use Rattle.change.specs.Records.{change_width, row_out}
 use Rattle.run.specs.State.{Queue}
@@ -11,11 +11,6 @@ pub remove_change-requires : goal.remove_change-requires
 remove_change-requires c =
     let there = says_same-waiting c.args.queue.now c.tidy.new.queue c.args.number c.args.place c.tidy.ensures.0 c.requires.there in
     ((dropped-waiting c.args.number (waiting_in c.tidy.new.queue) c.args.place c.args.counts.waiting there (length-waiting c.tidy.new.queue c.args.counts c.tidy.ensures.1) c.args.counts.few_waiting).2, search rules)
-
-pub overflow_sub-queue : goal.overflow_sub-queue
-overflow_sub-queue c =
-    let there = says_same-waiting c.args.queue.now c.tidy.new.queue c.args.number c.args.place c.tidy.ensures.0 c.requires.there in
-    omega (arith, (dropped-waiting c.args.number (waiting_in c.tidy.new.queue) c.args.place c.args.counts.waiting there (length-waiting c.tidy.new.queue c.args.counts c.tidy.ensures.1) c.args.counts.few_waiting).2)
 
 pub returns : goal.returns
 unfolding recorded decode

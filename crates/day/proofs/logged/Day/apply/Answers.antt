@@ -1,9 +1,9 @@
 use Rattle.std.proofs.Common.{Bool, cond, [], ◌∷◌, ◌++◌, sym, refl, ap, ◌∙◌, append-nil}
 use Rattle.std.proofs.lemmas.Result.{IfOk-weaker}
-use Rattle.queue.specs.declared.reply.Reply.{Reply}
 use Rattle.promises.specs.Lent.{is_done}
 use Rattle.day.proofs.Log.{answered-held, answered-stepped, never_taken, refused_any, promised_by}
 use Rattle.day.proofs.logged.Day.apply.Goals as goal
+use Rattle.queue.specs.Entry.{Reply}
 
 pub returns-then-holds_back : goal.returns-then-holds_back
 returns-then-holds_back c =
