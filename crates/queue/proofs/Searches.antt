@@ -4,7 +4,6 @@ use Rattle.std.specs.Option.{option_map}
 use Rattle.std.proofs.lemmas.List.{get_or-drop}
 use Rattle.std.proofs.lemmas.Bool.{leb-true}
 use Rattle.change.specs.Change.{Change, line, place_of}
-use Rattle.change.specs.Records.{changes_in}
 use Rattle.change.proofs.ChangeLaws.{place_numbered}
 use Rattle.run.specs.Numbers.{Begins, waiting_in}
 use Rattle.queue.specs.Refusals.{overlong, unless, waits_check}
@@ -61,9 +60,9 @@ or_first a b v e f = f ∙ sym (ap (λ x. x || b) e)
 pub or_second : (a b v : Bool) → a ≡ false → v ≡ b → v ≡ (a || b)
 or_second a b v e f = f ∙ sym (ap (λ x. x || b) e)
 
--- what is asked of a section is asked of as many changes as its count says
-pub counted : {B : Type 0} (P : List Change → B) (k m : ℕ) (xs : List ℕ) (b : B) → k ≡ m → b ≡ P (changes_in k xs) → P (changes_in m xs) ≡ b
-counted P k m xs b e f = ap (λ u. P (changes_in u xs)) (sym e) ∙ sym f
+-- what is asked of the code's changes is asked of those that they are
+pub asked : {B : Type 0} (P : List Change → B) {cs ds : List Change} {b : B} → cs ≡ ds → b ≡ P cs → P ds ≡ b
+asked P e f = ap P (sym e) ∙ sym f
 
 -- whether a change waits, by its place
 pub waits_by : (xs : List ℕ) (n : ℕ) (r : Option ℕ) → place_of n (waiting_in xs) ≡ r → waits_check xs n ≡ unless (is_some r) (NotWaiting n)

@@ -6,7 +6,7 @@ ghost use Rattle.queue.specs.Entry.{stepped};
 use super::entry::apply;
 use super::kind::Kind;
 use super::reply::Reply;
-use change::Change;
+use change::{Change, Record};
 use run::EVENT_LENGTH;
 
 // A change is submitted.
@@ -15,7 +15,7 @@ pub fn submit(queue: &mut [u64], c: Change) -> Reply
 {
     let mut event = [0; EVENT_LENGTH];
     event[0] = u64::from(Kind::Submit);
-    change::write_change(&mut event[1..EVENT_LENGTH], c);
+    c.write(&mut event[1..]);
     apply(queue, &event)
 }
 

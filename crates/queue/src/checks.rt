@@ -1,6 +1,7 @@
 // One check for each row of the refusals: each hands on its value, or leaves with the refusal. Those of `Held` ask a queue whose counts keep to their sections.
 ghost use Rattle.std.specs.Prelude.{◌≡◌, ◌+◌, ◌*◌, ◌<◌, ◌≤◌, ◌&&◌, length, drop, nat_le, Some, slice_index};
 ghost use Rattle.change.specs.Change.{place_of};
+ghost use Rattle.change.specs.Listed.{changes_of};
 ghost use Rattle.change.specs.Records.{Tallies, change_in, change_of, change_width, changes_in};
 ghost use Rattle.std.specs.Option.{option_map};
 ghost use Rattle.queue.specs.Queue.{used};
@@ -14,7 +15,7 @@ use super::counts::Counts;
 use super::held::Held;
 use super::kind::Kind;
 use super::reply::Refusal;
-use change::{CHANGE_WIDTH, Change, MOST_PARTS, PARTS};
+use change::{CHANGE_WIDTH, Change, Changes, MOST_PARTS, PARTS};
 use run::*;
 
 // The slice is long enough for a queue.
@@ -89,22 +90,20 @@ fn check_field(
 fn check_begins(
     queue: &[u64],
     tally: &[u64; PARTS],
-    landed: usize,
+    landed: Changes<'_>,
     base: usize,
     width: usize,
     n: usize,
 ) -> Result<usize, Refusal>
     requires fits { base + width * n ≤ length queue.now }
     requires wide { 1 < width }
-    requires inside { landed_at + change_width * landed ≤ length queue.now }
-    requires tallied { Tallies tally.now (changes_in landed (drop landed_at queue.now)) }
-    ensures says { check_of result ≡ option_map Malformed (overlong (changes_in landed (drop landed_at queue.now)) width n base queue.now) }
+    requires tallied { Tallies tally.now (changes_of landed) }
+    ensures says { check_of result ≡ option_map Malformed (overlong (changes_of landed.entry) width n base queue.now) }
     ensures hands { Hands result (λ m. m ≡ n) }
 {
     let overlong = (0..n).find(|i| {
         let at = base + width * *i;
-        let held = change::count_of(tally, queue, LANDED_AT, landed, queue[at]);
-        queue[at + 1] > held
+        queue[at + 1] > landed.count_of(tally, queue[at])
     });
     match overlong {
         Some(i) => Err(Refusal::Malformed((base + width * i) as u64)),
@@ -112,7 +111,26 @@ fn check_begins(
     }
 }
 
-impl Held<'_> {
+impl<'a> Held<'a> {
+    // The changes that landed, that wait, and that were rejected.
+    fn landed(self) -> Changes<'a>
+        ensures { changes_of result ≡ landed_in self.entry.queue.now }
+    {
+        Changes::at(self.queue, LANDED_AT, self.counts.landed)
+    }
+
+    fn waiting(self) -> Changes<'a>
+        ensures { changes_of result ≡ waiting_in self.entry.queue.now }
+    {
+        Changes::at(self.queue, WAITING_AT, self.counts.waiting)
+    }
+
+    fn rejected(self) -> Changes<'a>
+        ensures { changes_of result ≡ rejected_in self.entry.queue.now }
+    {
+        Changes::at(self.queue, REJECTED_AT, self.counts.rejected)
+    }
+
     // No change has too many parts, and no run too many changes that follow.
     pub fn check_records(self) -> Result<Counts, Refusal>
         ensures says { check_of result ≡ records_check self.entry.queue.now }
@@ -150,8 +168,8 @@ impl Held<'_> {
         ensures says { check_of result ≡ runs_check self.entry.queue.now }
         ensures hands { Hands result (λ t. Tallies t (landed_in self.entry.queue.now) × RunsFit self.entry.queue.now) }
     {
-        let landed = self.counts.landed;
-        let tally = change::tally_parts(self.queue, LANDED_AT, landed);
+        let landed = self.landed();
+        let tally = landed.tally();
         let held = self.counts.verdicts;
         let _verdicts = check_begins(self.queue, &tally, landed, VERDICTS_AT, VERDICT_WIDTH, held)?;
         let running = self.counts.running;
@@ -163,9 +181,9 @@ impl Held<'_> {
     fn used(self, number: u64) -> bool
         ensures { result ≡ used number (landed_in self.entry.queue.now) (waiting_in self.entry.queue.now) (rejected_in self.entry.queue.now) }
     {
-        change::number_used(self.queue, LANDED_AT, self.counts.landed, number)
-            || change::number_used(self.queue, WAITING_AT, self.counts.waiting, number)
-            || change::number_used(self.queue, REJECTED_AT, self.counts.rejected, number)
+        self.landed().number_used(number)
+            || self.waiting().number_used(number)
+            || self.rejected().number_used(number)
     }
 
     // No change that landed, waits or was rejected has the number.
@@ -185,8 +203,7 @@ impl Held<'_> {
         ensures says { check_of result ≡ waits_check self.entry.queue.now number }
         ensures hands { Hands result (λ i. place_of number (waiting_in self.entry.queue.now) ≡ Some i) }
     {
-        let Some(place) = change::find_number(self.queue, WAITING_AT, self.counts.waiting, number)
-        else {
+        let Some(place) = self.waiting().find_number(number) else {
             return Err(Refusal::NotWaiting(number));
         };
         Ok(place)

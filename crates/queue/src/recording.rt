@@ -8,7 +8,7 @@ ghost use Rattle.run.specs.Layout.{most_verdicts, queue_length, running_count, v
 ghost use Rattle.run.specs.Numbers.{decode, waiting_in};
 
 use super::counts::Counts;
-use change::Change;
+use change::{Change, append, remove};
 use run::*;
 
 // Writes landed, waiting and rejected as a state is written; the slice says what it said.
@@ -28,7 +28,7 @@ pub fn record_submit(queue: &mut [u64], counts: Counts, c: Change)
     ensures { Says queue.old (recorded (decode queue.old) (submit (change_of c))) queue.new }
 {
     tidy(queue, counts);
-    change::append_change(&mut queue[WAITING_AT..REJECTED_AT], counts.waiting, c);
+    append(&mut queue[WAITING_AT..REJECTED_AT], counts.waiting, c);
     queue[WAITING_COUNT] = counts.waiting as u64 + 1;
 }
 
@@ -39,7 +39,7 @@ pub fn record_withdraw(queue: &mut [u64], counts: Counts, number: u64, place: us
     ensures { Says queue.old (recorded (decode queue.old) (withdraw number)) queue.new }
 {
     tidy(queue, counts);
-    change::remove_change(&mut queue[WAITING_AT..REJECTED_AT], counts.waiting, place);
+    remove::<Change>(&mut queue[WAITING_AT..REJECTED_AT], counts.waiting, place);
     queue[WAITING_COUNT] = counts.waiting as u64 - 1;
 }
 
@@ -53,14 +53,12 @@ pub fn record_report(queue: &mut [u64], counts: Counts, place: usize, good: bool
     tidy(queue, counts);
     let at = RUNNING_AT + RUN_WIDTH * place;
     let run = run::read_run(&queue[at..at + RUN_WIDTH]);
-    run::append_verdict(
+    append(
         &mut queue[VERDICTS_AT..RUNNING_AT],
         counts.verdicts,
-        run,
-        good,
+        Verdict { run, good },
     );
-    let running = &mut queue[RUNNING_AT..QUEUE_LENGTH];
-    change::remove_record(running, RUN_WIDTH, counts.running, place);
+    remove::<Run>(&mut queue[RUNNING_AT..QUEUE_LENGTH], counts.running, place);
     count_runs(queue, counts.verdicts as u64 + 1, counts.running as u64 - 1);
 }
 

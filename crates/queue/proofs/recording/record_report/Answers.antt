@@ -15,8 +15,8 @@ returns c =
     let w : at + run_width - at ≡ run_width = omega arith in
     let said = c.tidy.ensures.0 in
     let sound = c.tidy.ensures.1 in
-    let next = says_reported ys c.append_verdict.new.section c.remove_record.new.section c.read_run-run.result c.args.good c.args.counts.verdicts c.args.counts.running c.args.place
-    said.settled sound.counted.verdicts sound.counted.running c.requires.few c.requires.there c.append_verdict.ensures c.remove_record.ensures
+    let next = says_reported ys c.append.new.section c.remove.new.section c.read_run-run.result c.args.good c.args.counts.verdicts c.args.counts.running c.args.place
+    said.settled sound.counted.verdicts sound.counted.running c.requires.few c.requires.there c.append.ensures c.remove.ensures
     (λ landed. c.read_run-run.ensures.value landed ∙ ap (λ u. run_in landed (take u (drop at ys))) w)
     (c.read_run-run.ensures.part ∙ ap (λ u. get_or (take u (drop at ys)) 0 0) w) (c.read_run-run.ensures.begins ∙ ap (λ u. get_or (take u (drop at ys)) 1 0) w) in
     says_next c.args.queue.now ys c.count_runs.new.queue _ _ _ said (says_same ys _ c.count_runs.new.queue _ next c.count_runs.ensures) (ap (λ (q : Queue). answered q c.args.place c.args.good) said.state)

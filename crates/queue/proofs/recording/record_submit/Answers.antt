@@ -20,7 +20,7 @@ returns c =
     let sound = c.tidy.ensures.1 in
     let n = length-waiting ys c.args.counts sound in
     let small : length x.parts ≤ most_parts = omega (arith, length-take c.args.c.count c.args.c.parts, c.args.c.few) in
-    let next = says_waiting ys c.append_change.new.section (ws ++ x ∷ []) (c.args.counts.waiting + 1) said.settled (fitting_more ys c.args.counts x sound c.requires.roomy small)
-    (λ e. c.append_change.ensures ∙ (ap (written (change_width * c.args.counts.waiting) (change_row x)) e ∙ section_more most_waiting ws x c.args.counts.waiting n c.requires.roomy.can_wait))
+    let next = says_waiting ys c.append.new.section (ws ++ x ∷ []) (c.args.counts.waiting + 1) said.settled (fitting_more ys c.args.counts x sound c.requires.roomy small)
+    (λ e. c.append.ensures ∙ (ap (written (change_width * c.args.counts.waiting) (change_row x)) e ∙ section_more most_waiting ws x c.args.counts.waiting n c.requires.roomy.can_wait))
     (omega (arith, n, length_push ws x)) in
     says_next c.args.queue.now ys _ _ _ _ said next (ap (λ (q : Queue). with_waiting q (join x q.waiting)) said.state)

@@ -1,7 +1,7 @@
-use Rattle.std.proofs.Common.{◌≡◌, ℕ, List, get_or, drop, None, sym, ◌∙◌, subst, arith}
-use Rattle.change.specs.Records.{changes_in, Tallies}
+use Rattle.std.proofs.Common.{◌≡◌, ℕ, List, get_or, None, sym, ◌∙◌, subst, arith}
+use Rattle.change.specs.Records.{Tallies}
 use Rattle.run.specs.Records.{run_width, verdict_width}
-use Rattle.run.specs.Layout.{landed_at, verdicts_at, running_at, verdicts_count, running_count}
+use Rattle.run.specs.Layout.{verdicts_at, running_at, verdicts_count, running_count}
 use Rattle.run.specs.Numbers.{landed_in}
 use Rattle.queue.specs.Refusals.{overlong}
 use Rattle.queue.proofs.Searches.{all_begin, none_mapped}
@@ -11,10 +11,10 @@ pub returns-clause-hands : goal.returns-clause-hands
 returns-clause-hands c =
     let xs : List ℕ = c.args.self.queue.now in
     let v : None ≡ overlong (landed_in xs) verdict_width (get_or xs verdicts_count 0) verdicts_at xs =
-    sym (none_mapped _ _ c.in_ok-_verdicts.ensures.says) ∙ (λ i. overlong (changes_in (c.args.self.counted.landed i) (drop landed_at xs)) verdict_width (c.args.self.counted.verdicts i) verdicts_at xs) in
+    sym (none_mapped _ _ c.in_ok-_verdicts.ensures.says) ∙ (λ i. overlong (c.landed-landed.ensures i) verdict_width (c.args.self.counted.verdicts i) verdicts_at xs) in
     let r : None ≡ overlong (landed_in xs) run_width (get_or xs running_count 0) running_at xs =
-    sym (none_mapped _ _ c.in_ok-_running.ensures.says) ∙ (λ i. overlong (changes_in (c.args.self.counted.landed i) (drop landed_at xs)) run_width (c.args.self.counted.running i) running_at xs) in (
-      subst (λ (n : ℕ). Tallies c.tally_parts-tally.result (changes_in n (drop landed_at xs))) c.args.self.counted.landed c.tally_parts-tally.ensures,
+    sym (none_mapped _ _ c.in_ok-_running.ensures.says) ∙ (λ i. overlong (c.landed-landed.ensures i) run_width (c.args.self.counted.running i) running_at xs) in (
+      subst (Tallies c.tally-tally.result) c.landed-landed.ensures c.tally-tally.ensures,
       record {
         long = c.args.self.long;
         few_verdicts = omega (arith, c.args.self.counted.verdicts, c.args.self.counts.few_verdicts);
