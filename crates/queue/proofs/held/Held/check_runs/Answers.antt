@@ -1,11 +1,18 @@
-use Rattle.std.proofs.Common.{◌≡◌, ℕ, List, get_or, None, sym, ◌∙◌, subst, arith}
-use Rattle.change.specs.Records.{Tallies}
+use Rattle.std.proofs.Common.{◌≡◌, ℕ, ◌≤◌, List, length, get_or, drop, None, sym, ap, ◌∙◌, subst, arith}
+use Rattle.change.specs.Records.{Tallies, change_in, change_width}
+use Rattle.change.proofs.Rows.{length-rows}
 use Rattle.run.specs.Records.{run_width, verdict_width}
-use Rattle.run.specs.Layout.{verdicts_at, running_at, verdicts_count, running_count}
+use Rattle.run.specs.Layout.{landed_at, landed_count, most_landed, verdicts_at, running_at, verdicts_count, running_count}
 use Rattle.run.specs.Numbers.{landed_in}
 use Rattle.queue.specs.Refusals.{overlong}
 use Rattle.queue.proofs.Searches.{all_begin, none_mapped}
 use Rattle.queue.proofs.held.Held.check_runs.Goals as goal
+
+pub tally-tally-requires : goal.tally-tally-requires
+tally-tally-requires c =
+    let xs : List ℕ = c.args.self.queue.now in
+    let few : get_or xs landed_count 0 ≤ most_landed = omega (arith, c.args.self.counted.landed, c.args.self.counts.few_landed) in
+    omega (arith, ap length c.landed-landed.ensures, length-rows change_in change_width (get_or xs landed_count 0) (drop landed_at xs), few)
 
 pub returns-clause-hands : goal.returns-clause-hands
 returns-clause-hands c =
