@@ -79,8 +79,12 @@ fn tidy_change(row: &mut [u64])
     requires { length row.old ≡ change_width }
     ensures { row.new ≡ change_row (change_in row.old) }
 {
-    let c = read_change(row);
-    c.write(row);
+    let count = row[1].min(MOST_PARTS as u64);
+    row[1] = count;
+    // Written in any case and by index, so that no branch is taken: to read and write the change takes twice as long.
+    for j in 0..MOST_PARTS {
+        row[2 + j] = if (j as u64) < count { row[2 + j] } else { 0 };
+    }
 }
 
 // Writes the first n changes of a section as they read, and 0 behind them.
