@@ -2,6 +2,7 @@
 use Rattle.std.proofs.Common.{◌≡◌, ℕ, true, List, [], ◌∷◌, ◌++◌, Some, None, codes, sym, refl, ap, ◌∙◌, true≢false, Ok, Err}
 use Rattle.std.specs.declared.fmt.Formatter.{Formatter}
 use Rattle.std.specs.Fmt.{IsPlainFormatter, HasWritten}
+use Rattle.run.proofs.Writing.{Sofar, sofar_none, sofar_more, sofar_all}
 use Rattle.queue.specs.Entry.{Reply}
 use Rattle.queue.specs.Refusals.{refusal_text}
 use Rattle.queue.specs.declared.reply.Refusal.{Refusal}
@@ -9,7 +10,6 @@ use Rattle.promises.specs.Lent.{is_done}
 use Rattle.day.specs.Day.{answered, printed, lines, ends, started_text, text_from, day_text}
 use Rattle.day.specs.DayFile.{config_read, events_in}
 use Rattle.day.specs.Played.{started}
-use Rattle.day.proofs.Writing.{Sofar, sofar_none, sofar_more, sofar_all}
 
 module _ {W : Type 0} (took : W → List ℕ → W → Type 0) (f : Formatter W) (most : ℕ) (whole last : List ℕ) where
   -- these numbers and events are left of a day that holds at most so many changes: its lines so far were written, and the numbers at its end are the last

@@ -1,48 +1,40 @@
 -- The texts of runs and of the state, from the numbers that the code reads. Assumes nothing.
-use Rattle.std.proofs.Common.{◌≡◌, ℕ, suc, ◌+◌, ◌-◌, ◌<◌, min, Bool, true, false, cond, ◌||◌, eqb, List, [], ◌∷◌, ◌++◌, length, get_or, take, drop, codes, decimal, sym, refl, ap, ◌∙◌, subst, append_assoc, arith}
+use Rattle.std.proofs.Common.{◌≡◌, ℕ, suc, ◌-◌, ◌<◌, ◌≤◌, min, Bool, true, false, cond, ◌||◌, List, [], ◌∷◌, ◌++◌, get_or, take, drop, codes, decimal, sym, refl, ap, ◌∙◌, subst, append_assoc, arith}
 use Rattle.std.specs.List.{flat_map}
 use Rattle.std.specs.Fmt.{IsPlainFormatter, HasWritten}
 use Rattle.std.specs.declared.fmt.Formatter.{Formatter}
-use Rattle.std.proofs.lemmas.List.{at_drop_more}
 use Rattle.change.specs.Change.{Change, has, line}
+use Rattle.change.proofs.ChangeLaws.{line_touched}
 use Rattle.change.specs.Records.{rows, change_in, changes_in, change_width}
 use Rattle.run.specs.Records.{run_in, runs_in}
 use Rattle.run.specs.Limits.{most_following}
 use Rattle.run.specs.Layout.{landed_count, waiting_count, rejected_count, running_count, requested_at, landed_at, waiting_at, rejected_at, running_at}
 use Rattle.run.specs.Numbers.{decode}
-use Rattle.day.specs.Text.{change_text, changes_text, run_text, line_text, some, Begun}
-use Rattle.day.proofs.Writing.{Sofar, sofar_more, sofar_all}
+use Rattle.run.specs.Text.{changes_text}
+use Rattle.run.proofs.Writing.{Sofar, sofar_none, sofar_more, sofar_all, text_more}
+use Rattle.day.proofs.Writing.{rows_step}
+use Rattle.day.specs.Text.{change_text, run_text, line_text, some, Begun}
 
-pub has_here : (xs : List ℕ) (i p : ℕ) → i < length xs → has (drop i xs) p ≡ (eqb (get_or xs i 0) p || has (drop (i + 1) xs) p)
-has_here xs i p lt = at_drop_more (λ l. has l p) xs i 0 lt
-
--- of n records from the i-th on, the first and those behind it
-pub rows_next : {A : Type 0} (read : List ℕ → A) (w n i : ℕ) (xs ys : List ℕ) → i < n → ys ≡ drop w xs → rows read w (n - i) xs ≡ read xs ∷ rows read w (n - (i + 1)) ys
-rows_next read w n i xs ys lt behind =
-    let m : n - i ≡ suc (n - (i + 1)) = omega arith in
-    ap (λ (u : ℕ). rows read w u xs) m ∙ ap (λ (l : List ℕ). read xs ∷ rows read w (n - (i + 1)) l) (sym behind)
-
-module _ (p n i : ℕ) (xs ys : List ℕ) (lt : i < n) (behind : ys ≡ drop change_width xs) where
+module _ (p n m : ℕ) (xs ys row : List ℕ) (e : rows (λ l. l) change_width n xs ≡ row ∷ rows (λ l. l) change_width m ys) where
   -- what is left to write of the part's line, at a change that is written
-  pub begun_yes : (left number : ℕ) → 0 < left → number ≡ get_or xs 0 0 → has (change_in xs).parts p ≡ true →
-      take left (line p (changes_in (n - i) xs)) ≡ number ∷ take (left - 1) (line p (changes_in (n - (i + 1)) ys))
+  pub begun_yes : (left number : ℕ) → 0 < left → number ≡ get_or row 0 0 → has (change_in row).parts p ≡ true →
+      take left (line p (changes_in n xs)) ≡ number ∷ take (left - 1) (line p (changes_in m ys))
   begun_yes left number more is touched =
-      let m : left ≡ suc (left - 1) = omega arith in
-      let cs = changes_in (n - (i + 1)) ys in
-      ap (λ l. take left (line p l)) (rows_next change_in change_width n i xs ys lt behind)
-      ∙ ap (λ b. take left (cond b (get_or xs 0 0 ∷ line p cs) (line p cs))) touched
-      ∙ ap (λ u. take u (get_or xs 0 0 ∷ line p cs)) m
-      ∙ ap (λ u. u ∷ take (left - 1) (line p cs)) (sym is)
+      let k : left ≡ suc (left - 1) = omega arith in
+      ap (λ l. take left (line p l)) (rows_step change_in change_width n m xs ys row e)
+      ∙ ap (take left) (line_touched p (change_in row) (changes_in m ys) touched)
+      ∙ ap (λ u. take u (get_or row 0 0 ∷ line p (changes_in m ys))) k
+      ∙ ap (λ u. u ∷ take (left - 1) (line p (changes_in m ys))) (sym is)
 
   -- at one that is not
-  pub begun_no : (left : ℕ) → has (change_in xs).parts p ≡ false → take left (line p (changes_in (n - i) xs)) ≡ take left (line p (changes_in (n - (i + 1)) ys))
+  pub begun_no : (left : ℕ) → has (change_in row).parts p ≡ false → take left (line p (changes_in n xs)) ≡ take left (line p (changes_in m ys))
   begun_no left touched =
-      let cs = changes_in (n - (i + 1)) ys in
-      ap (λ l. take left (line p l)) (rows_next change_in change_width n i xs ys lt behind) ∙ ap (λ b. take left (cond b (get_or xs 0 0 ∷ line p cs) (line p cs))) touched
+      let cs = changes_in m ys in
+      ap (λ l. take left (line p l)) (rows_step change_in change_width n m xs ys row e) ∙ ap (λ b. take left (cond b (get_or row 0 0 ∷ line p cs) (line p cs))) touched
 
--- the first of these changes is written, and the others are left
-pub text_more : (led : Bool) (n : ℕ) (ns ms : List ℕ) → ms ≡ n ∷ ns → changes_text led ms ≡ (cond led (codes "+") [] ++ decimal n) ++ changes_text true ns
-text_more led n ns ms e = ap (changes_text led) e ∙ sym (append_assoc (cond led (codes "+") []) (decimal n) (changes_text true ns))
+-- none is left to write, whatever stands there
+pub begun_full : (left : ℕ) (ns ms : List ℕ) → left ≤ 0 → take left ns ≡ take left ms
+begun_full left ns ms le = let z : left ≡ 0 = omega arith in ap (λ u. take u ns) z ∙ sym (ap (λ u. take u ms) z)
 
 or_false : (b : Bool) → (b || false) ≡ b
 or_false true = refl
@@ -77,6 +69,9 @@ module _ {W : Type 0} (took : W → List ℕ → W → Type 0) (f : Formatter W)
   abbrev pub Left : Bool → List ℕ → Formatter W → Type 0
   Left led left g = Sofar took f (changes_text false all) (changes_text led left) g × (some all ≡ (led || some left))
 
+  pub left_none : (ns : List ℕ) → ns ≡ all → Left false ns f
+  left_none ns e = (sofar_none took f _ _ (ap (changes_text false) e), ap some (sym e))
+
   pub left_more : (led : Bool) (n : ℕ) (ns left : List ℕ) (g h : Formatter W) → Left led left g → left ≡ n ∷ ns → (IsPlainFormatter g → HasWritten took g (cond led (codes "+") [] ++ decimal n) h) → Left true ns h
   left_more led n ns left g h s e k =
       (sofar_more took f _ _ g _ _ h s.0 (text_more led n ns left e) k, s.1 ∙ ap (λ l. led || some l) e ∙ or_true led)
@@ -86,11 +81,6 @@ module _ {W : Type 0} (took : W → List ℕ → W → Type 0) (f : Formatter W)
 
   pub left-all : (led : Bool) (left : List ℕ) (g : Formatter W) → Left led left g → left ≡ [] → Begun took f all led g
   left-all led left g s e = (sofar_all took f _ _ g s.0 (ap (changes_text led) e), sym (s.1 ∙ ap (λ l. led || some l) e ∙ or_false led))
-
-  -- the same where ways meet
-  pub left_met : (ns : ℕ → List ℕ) (led led' : Bool) (left left' : ℕ) (g g' : Formatter W) → led' ≡ led → left' ≡ left → g' ≡ g → Left led (ns left) g → Left led' (ns left') g'
-  left_met ns led led' left left' g g' a b c s =
-      subst (λ h. Left led' (ns left') h) (sym c) (subst (λ n. Left led' (ns n) g) (sym b) (subst (λ l. Left l (ns left) g) (sym a) s))
 
 -- so many records, and the numbers that begin with them, are those of a section
 pub record Holds (xs : List ℕ) (count_at at n : ℕ) (ys : List ℕ) : Type 0 where

@@ -1,22 +1,19 @@
 -- The text that is printed for an event: the state's line, or the refusal. Assumes nothing: these are definitions.
-use Rattle.std.specs.Prelude.{◌≡◌, ℕ, Bool, true, false, cond, List, [], ◌∷◌, ◌++◌, codes, decimal, Ok, Err}
+use Rattle.std.specs.Prelude.{◌≡◌, ℕ, Bool, true, false, List, [], ◌∷◌, ◌++◌, codes, decimal, Ok, Err}
 use Rattle.std.specs.List.{flat_map}
 use Rattle.std.specs.Fmt.{IsPlainFormatter, HasWritten}
 use Rattle.std.specs.declared.fmt.Formatter.{Formatter}
 use Rattle.change.specs.Change.{Change}
 use Rattle.run.specs.Run.{Run}
 use Rattle.run.specs.State.{Queue}
+use Rattle.run.specs.Text.{changes_text}
+use Rattle.run.specs.Text as text
 use Rattle.queue.specs.Refusals.{refusal_text}
 use Rattle.queue.specs.Entry.{Reply}
 
 -- in a list of changes: a blank, and the change's number
 abbrev pub change_text : Change → List ℕ
 change_text c = codes " " ++ decimal c.number
-
--- the changes of a run, parted by a plus; `led` if others stand before them
-abbrev pub changes_text : Bool → List ℕ → List ℕ
-changes_text led [] = []
-changes_text led (n ∷ ns) = cond led (codes "+") [] ++ (decimal n ++ changes_text true ns)
 
 -- whether there are any
 abbrev pub some : List ℕ → Bool
@@ -27,9 +24,9 @@ some (n ∷ ns) = true
 abbrev pub Begun : {W : Type 0} → (W → List ℕ → W → Type 0) → Formatter W → List ℕ → Bool → Formatter W → Type 0
 Begun took f ns led g = (IsPlainFormatter f → HasWritten took f (changes_text false ns) g) × (led ≡ some ns)
 
--- in a list of runs: a blank, the run's part, a colon, and its changes
+-- in a list of runs: a blank, and the run's text
 abbrev pub run_text : Run → List ℕ
-run_text r = codes " " ++ (decimal r.part ++ (codes ":" ++ changes_text false r.changes))
+run_text r = codes " " ++ text.run_text r
 
 -- a state: the changes that landed, wait and were rejected, the runs that run, and how many were requested
 unfoldable pub line_text : Queue → List ℕ

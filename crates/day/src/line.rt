@@ -1,18 +1,18 @@
 // The line that is printed for a state, read from the queue's numbers.
-ghost use Rattle.std.specs.Prelude.{◌≡◌, [], ◌++◌, take, drop, IfOk, if◌then◌else◌, Some, codes, decimal, slice_index_or};
+ghost use Rattle.std.specs.Prelude.{◌≡◌, take, drop, IfOk, Some, slice_index_or};
+ghost use Rattle.std.specs.Iterator.{YieldsFirstRef, item_count};
 ghost use Rattle.std.specs.List.{flat_map};
-ghost use Rattle.std.specs.Fmt.{WritesOnOk};
 ghost use Rattle.change.specs.Change.{has, line};
-ghost use Rattle.change.specs.Records.{change_in, changes_in};
+ghost use Rattle.change.specs.Records.{change_in, changes_in, rows};
 ghost use Rattle.run.specs.Records.{run_in, runs_in};
 ghost use Rattle.run.specs.Numbers.{decode};
-ghost use Rattle.day.specs.Text.{change_text, changes_text, run_text, line_text, Begun};
+ghost use Rattle.day.specs.Text.{change_text, run_text, line_text, Begun};
 
 use super::slices::{first, number_at, past};
 use change::{CHANGE_WIDTH, MOST_PARTS};
 use run::{
     LANDED_AT, LANDED_COUNT, MOST_FOLLOWING, REJECTED_AT, REJECTED_COUNT, REQUESTED_AT, RUN_WIDTH,
-    RUNNING_AT, RUNNING_COUNT, WAITING_AT, WAITING_COUNT,
+    RUNNING_AT, RUNNING_COUNT, WAITING_AT, WAITING_COUNT, write_changes, write_number,
 };
 use std::fmt;
 
@@ -42,16 +42,16 @@ impl fmt::Display for StateLine<'_> {
     }
 }
 
-// So many records, in numbers that begin with the first.
+// So many records of a width, in numbers that begin with the first.
 #[derive(Clone, Copy)]
-struct Section<'a> {
+struct Section<'a, const WIDTH: usize> {
     count: u64,
     numbers: &'a [u64],
 }
 
-impl<'a> Section<'a> {
+impl<'a, const WIDTH: usize> Section<'a, WIDTH> {
     // The records from an index on, as many as the count at another index says.
-    fn of(queue: &'a [u64], count_at: usize, at: usize) -> Section<'a>
+    fn of(queue: &'a [u64], count_at: usize, at: usize) -> Section<'a, WIDTH>
         ensures count { result.count ≡ slice_index_or queue.now count_at 0 }
         ensures numbers { result.numbers.now ≡ drop at queue.now }
     {
@@ -62,18 +62,35 @@ impl<'a> Section<'a> {
     }
 }
 
+// For each record, the numbers that begin with it.
+impl<'a, const WIDTH: usize> Iterator for Section<'a, WIDTH> {
+    type Item = &'a [u64];
+
+    ghost next_gives = { YieldsFirstRef (λ s. rows (λ xs. xs) WIDTH s.count s.numbers.now) };
+
+    ghost remaining = { item_count (λ s. rows (λ xs. xs) WIDTH s.count s.numbers.now) };
+
+    fn next(&mut self) -> Option<&'a [u64]> {
+        if self.count == 0 {
+            return None;
+        }
+        let row = self.numbers;
+        self.numbers = past(row, WIDTH);
+        self.count -= 1;
+        Some(row)
+    }
+}
+
 #[derive(Clone, Copy)]
-struct Changes<'a>(Section<'a>);
+struct Changes<'a>(Section<'a, CHANGE_WIDTH>);
 
 impl fmt::Display for Changes<'_> {
     ghost output = { λ c. Some (flat_map change_text (changes_in c.0.count c.0.numbers.now)) };
 
     fn fmt<W: fmt::Write>(&self, f: &mut fmt::Formatter<W>) -> fmt::Result {
-        let mut rest = self.0.numbers;
-        for _i in 0..self.0.count {
-            let number = number_at(rest, 0);
+        for row in self.0 {
+            let number = number_at(row, 0);
             write!(f, " {number}")?;
-            rest = past(rest, CHANGE_WIDTH);
         }
         Ok(())
     }
@@ -84,30 +101,13 @@ fn touches(row: &[u64], part: u64) -> bool
     ensures { result ≡ has (change_in row.now).parts part }
 {
     let count = number_at(row, 1).min(MOST_PARTS as u64);
-    let parts = first(past(row, 2), count as usize);
-    for touched in parts {
-        if *touched == part {
-            return true;
-        }
-    }
-    false
-}
-
-// Writes the number of a change in a run, behind a plus if others stand before it.
-fn write_number<W: fmt::Write>(f: &mut fmt::Formatter<W>, led: bool, number: u64) -> fmt::Result
-    ensures { WritesOnOk W.write_str_gives f.old result ((if led then codes "+" else []) ++ decimal number) f.new }
-{
-    if led {
-        write!(f, "+{number}")
-    } else {
-        write!(f, "{number}")
-    }
+    first(past(row, 2), count as usize).contains(&part)
 }
 
 // Writes the landed changes that a run begins with, at most so many, and says whether there are any.
 fn write_begun<W: fmt::Write>(
     f: &mut fmt::Formatter<W>,
-    landed: Section<'_>,
+    landed: Section<'_, CHANGE_WIDTH>,
     part: u64,
     most: u64,
 ) -> Result<bool, fmt::Error>
@@ -115,37 +115,19 @@ fn write_begun<W: fmt::Write>(
 {
     let mut led = false;
     let mut left = most;
-    let mut rest = landed.numbers;
-    for _i in 0..landed.count {
-        if left > 0 && touches(rest, part) {
-            write_number(f, led, number_at(rest, 0))?;
+    for row in landed {
+        if left > 0 && touches(row, part) {
+            write_number(f, led, number_at(row, 0))?;
             led = true;
             left -= 1;
         }
-        rest = past(rest, CHANGE_WIDTH);
     }
     Ok(led)
 }
 
-// Writes the changes that follow in a run.
-fn write_following<W: fmt::Write>(
-    f: &mut fmt::Formatter<W>,
-    led: bool,
-    numbers: &[u64],
-) -> fmt::Result
-    ensures { WritesOnOk W.write_str_gives f.old result (changes_text led numbers.now) f.new }
-{
-    let mut led = led;
-    for number in numbers {
-        write_number(f, led, *number)?;
-        led = true;
-    }
-    Ok(())
-}
-
 #[derive(Clone, Copy)]
 struct Run<'a> {
-    landed: Section<'a>,
+    landed: Section<'a, CHANGE_WIDTH>,
     row: &'a [u64],
 }
 
@@ -158,28 +140,26 @@ impl fmt::Display for Run<'_> {
         let following = number_at(self.row, 2).min(MOST_FOLLOWING as u64);
         write!(f, " {part}:")?;
         let led = write_begun(f, self.landed, part, most)?;
-        write_following(f, led, first(past(self.row, 3), following as usize))
+        write_changes(f, led, first(past(self.row, 3), following as usize))
     }
 }
 
 #[derive(Clone, Copy)]
 struct Runs<'a> {
-    landed: Section<'a>,
-    running: Section<'a>,
+    landed: Section<'a, CHANGE_WIDTH>,
+    running: Section<'a, RUN_WIDTH>,
 }
 
 impl fmt::Display for Runs<'_> {
     ghost output = { λ r. Some (flat_map run_text (runs_in (changes_in r.landed.count r.landed.numbers.now) r.running.count r.running.numbers.now)) };
 
     fn fmt<W: fmt::Write>(&self, f: &mut fmt::Formatter<W>) -> fmt::Result {
-        let mut rest = self.running.numbers;
-        for _i in 0..self.running.count {
+        for row in self.running {
             let run = Run {
                 landed: self.landed,
-                row: rest,
+                row,
             };
             write!(f, "{run}")?;
-            rest = past(rest, RUN_WIDTH);
         }
         Ok(())
     }

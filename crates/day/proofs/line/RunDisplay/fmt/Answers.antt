@@ -12,7 +12,7 @@ returns-clause-writes g c = λ plain ok.
     let a = c.in_ok-write.ensures.writes plain refl in
     let b = c.in_ok-led.ensures in
     let x = b.0 a.plain in
-    let y = c.write_following.ensures x.plain ok in
+    let y = c.write_changes.ensures x.plain ok in
     let follow = c.first.ensures ∙ (λ j. take ((c.min-following.ensures ∙ ap (λ (u : ℕ). min u most_following) c.number_at.ensures) j) (c.past.ensures j)) in
     let landed = changes_in c.args.self.now.landed.count c.args.self.now.landed.numbers.now in
     has_written_of_eq took _ _ _ _ (run_is landed row c.first.result.now c.number_at-part.result c.number_at-most.result c.in_ok-led.led c.number_at-part.ensures c.number_at-most.ensures follow b.1)

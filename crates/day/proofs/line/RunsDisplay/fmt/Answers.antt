@@ -1,12 +1,18 @@
-use Rattle.std.proofs.Common.{refl}
+use Rattle.std.proofs.Common.{refl, ap}
+use Rattle.std.specs.List.{flat_map}
 use Rattle.change.specs.Records.{changes_in}
-use Rattle.run.specs.Records.{run_in, run_width}
+use Rattle.run.specs.Records.{run_in, run_width, runs_in}
+use Rattle.run.proofs.Writing.{sofar_none}
 use Rattle.day.specs.Text.{run_text}
 use Rattle.day.proofs.Writing.{sofar_row}
 use Rattle.day.proofs.line.RunsDisplay.fmt.Goals as goal
 
-pub loop-i-preserved : goal.loop-i-preserved
-loop-i-preserved g c =
+pub loop-row-init : goal.loop-row-init
+loop-row-init g c =
     let landed = changes_in c.args.self.now.landed.count c.args.self.now.landed.numbers.now in
-    sofar_row g.W.Write.write_str_gives (run_in landed) run_width run_text c.args.self.now.running.count c.loop-i._i c.loop-i.rest.now c.past-rest.result.now
-    _ _ _ _ _ c.loop-i.invariant c.loop-i-test.true c.past-rest.ensures refl (λ p. c.in_ok-write.ensures.writes p refl)
+    sofar_none g.W.Write.write_str_gives _ _ _ (ap (λ s. flat_map run_text (runs_in landed s.count s.numbers.now)) c.into_iter-row-iterator.ensures.into_iter_gives)
+
+pub loop-row-preserved : goal.loop-row-preserved
+loop-row-preserved g c =
+    sofar_row (run_in (changes_in c.args.self.now.landed.count c.args.self.now.landed.numbers.now)) run_width g.W.Write.write_str_gives run_text _ _ _ _ _ _ _ _ _ _ c.loop-row.invariant c.in-Some.ensures.steps
+    refl (λ p. c.in_ok-write.ensures.writes p refl)
