@@ -2,14 +2,13 @@
 use Rattle.std.proofs.Common.{◌≡◌, ℕ, ◌+◌, ◌<◌, Bool, cond, List, [], ◌∷◌, ◌++◌, map, length, get_or, take, drop, is_some, Some, None, Option, sym, refl, ap, ◌∙◌, arith, length-append}
 use Rattle.std.specs.List.{sum_by}
 use Rattle.std.specs.Option.{option_map}
-use Rattle.std.proofs.lemmas.List.{length-take-le, map_push, take_more}
+use Rattle.std.proofs.lemmas.List.{drop_more, length-take-le, map_push, take_more}
 use Rattle.std.proofs.lemmas.List.Sums.{sum_by-cons}
 use Rattle.change.specs.Change.{Change}
 use Rattle.change.specs.Records.{change_of}
 use Rattle.change.specs.declared.change.Change as declared
 use Rattle.run.specs.Run.{Run, Verdict}
 use Rattle.run.specs.declared.known.Known.TheVariants.{Nothing, Good, Bad}
-use Rattle.serial.proofs.Steps.{mapped_more}
 use Rattle.audits.specs.Audit.{fault_of, faulty, first_fault, log_says, states_at, states_from}
 use Rattle.audits.specs.declared.fault.Fault as code
 
@@ -22,6 +21,10 @@ fault_else vs (r ∷ rs) ys =
       | Good ↦ fault_else vs rs ys
       | Bad ↦ refl
     ]
+
+-- what is made of the elements from the i-th on: what is made of that one, and of the others
+mapped_more : {X Y : Type 0} (f : X → Y) (xs : List X) (i : ℕ) (x : X) → i < length xs → x ≡ get_or xs i x → map f (drop i xs) ≡ f x ∷ map f (drop (i + 1) xs)
+mapped_more f xs i x lt is = ap (map f) (drop_more xs i x lt ∙ ap (λ y. y ∷ drop (i + 1) xs) (sym is))
 
 -- the states of a main line from the i-th change on: those of this change, and those of the others
 pub states_more : (main : List declared.Change) (i : ℕ) (x : declared.Change) → i < length main → x ≡ get_or main i x →

@@ -19,7 +19,7 @@ pub fn take_out(queue: &mut [u64], i: usize)
     queue[WAITING_COUNT] = waiting as u64 - 1;
 }
 
-// The change lands behind those that have landed.
+// The change lands behind those that have landed. This is apart from `reject`: each promises which of the queue's lists grew, and one function over a section could say only that some list did.
 pub fn land(queue: &mut [u64], c: Change)
     requires settled { Settled queue.old }
     requires few { slice_index queue.old landed_count < most_landed }
