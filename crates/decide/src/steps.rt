@@ -1,4 +1,5 @@
 // Moving one change in the lent queue: out of those that wait, behind those that landed, behind those that were rejected.
+// The queue stays the plain numbers that the user lends, here and in `pass`, so that it is settled is said in each contract.
 ghost use Rattle.std.specs.Prelude.{◌≡◌, ◌<◌, [], ◌∷◌, ◌++◌, slice_index};
 ghost use Rattle.change.specs.Change.{without};
 ghost use Rattle.change.specs.Records.{change_of};

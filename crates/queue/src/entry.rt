@@ -1,5 +1,6 @@
 // Opening a lent queue, and applying an event to it.
 // The user asked for this form of an entry: each check hands on its value, or the call leaves by `let .. else`.
+// Queue and event stay the plain numbers that the user lends, so what is known of them is said in each contract.
 ghost use Rattle.std.specs.Prelude.{◌≡◌, ◌<◌, ◌≤◌, length, drop, slice_index};
 ghost use Rattle.plan.specs.Numbers.{Ready};
 ghost use Rattle.plan.specs.Plan.{planned};

@@ -1,4 +1,5 @@
 // Recording an event in the lent queue, once every check has let it pass.
+// The queue stays the plain numbers that the user lends, so what the checks found of it is said in each contract.
 ghost use Rattle.std.specs.Prelude.{◌≡◌, ◌<◌, ◌≤◌, length, Some, slice_set};
 ghost use Rattle.change.specs.Change.{place_of};
 ghost use Rattle.change.specs.Records.{change_of};
