@@ -12,9 +12,6 @@ module _ {W : Type 0} (took : W → List ℕ → W → Type 0) where
     pub is : done ++ left ≡ whole
     pub put : IsPlainFormatter f → HasWritten took f done g
 
-  pub sofar_none : (f : Formatter W) (whole left : List ℕ) → left ≡ whole → Sofar f whole left f
-  sofar_none f whole left e = record { done = []; is = e; put = λ p. record { wrote = writes_in_calls_nil took _; plain = p } }
-
   pub sofar_more : (f : Formatter W) (whole left : List ℕ) (g : Formatter W) (piece rest : List ℕ) (h : Formatter W) →
       Sofar f whole left g → left ≡ piece ++ rest → (IsPlainFormatter g → HasWritten took g piece h) → Sofar f whole rest h
   sofar_more f whole left g piece rest h s e k = record {
