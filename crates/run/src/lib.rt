@@ -19,5 +19,5 @@ pub use layout::{
 pub use methods::run_on_top;
 pub use records::{RUN_WIDTH, VERDICT_WIDTH, read_run, says_good};
 pub use run::{MOST_FOLLOWING, Run};
-pub use verdict::Verdict;
 pub use text::{ChangesText, write_changes, write_number};
+pub use verdict::Verdict;

@@ -1,18 +1,10 @@
-use Rattle.std.proofs.Common.{◌≡◌, ℕ, ◌+◌, ◌-◌, true, List, [], ◌∷◌, ◌++◌, length, take, drop, sym, ap, ◌∙◌, arith}
-use Rattle.std.proofs.lemmas.List.{append-nil, append_assoc, drop_all, length-take}
+use Rattle.std.proofs.Common.{◌≡◌, ℕ, ◌-◌, List, [], ◌∷◌, ◌++◌, length, take, drop, sym, ap, ◌∙◌, arith}
+use Rattle.std.proofs.lemmas.List.{append_assoc}
 use Rattle.change.specs.Change.{line}
 use Rattle.change.specs.Listed.{changes_of}
 use Rattle.change.specs.Records.{change_of}
 use Rattle.run.proofs.Compared.{line_touched, line_passed, ends_true, ends_false, ends_more}
 use Rattle.run.proofs.run.Run.repeats_last.Goals as goal
-
-pub loop-c-init : goal.loop-c-init
-loop-c-init c = (
-  [],
-  ap (λ s. line c.args.part (changes_of s)) (sym (ap (λ r. r.iter) c.into_iter-c-iterator.ensures.into_iter_gives ∙ c.rev-c-items.ensures.source)) ∙ sym (append-nil _),
-  omega arith,
-  drop_all c.args.d (take c.args.d c.args.self.numbers) (omega (arith, length-take c.args.d c.args.self.numbers)),
-)
 
 pub returns-then-left-eq0 : goal.returns-then-left-eq0
 returns-then-left-eq0 c =
