@@ -1,6 +1,6 @@
 -- Laws of the parts that were seen so far: each one more, what is counted at it, and where a fault is found.
 use Rattle.std.proofs.Common.{◌≡◌, ℕ, suc, ◌+◌, ◌<◌, ◌≤◌, Bool, true, false, cond, not, ◌&&◌, ◌||◌, eqb, ltb, List, [], ◌∷◌, ◌++◌, length, get_or, take, drop, set, Some, sym, refl, ap, ◌∙◌, subst, ⊎_elim, add-one, arith}
-use Rattle.std.proofs.lemmas.List.{take_more, drop_more, get_or-set_same, get_or-set_other, length-take-le, get_or-take, take-take}
+use Rattle.std.proofs.lemmas.List.{take_more, drop_more, get_or-set_same, get_or-set_other}
 use Rattle.std.proofs.lemmas.Bool.{eq-eqb, ne_eqb, cases_eq, or_right, and_from, and_left, and_right, not_from_true, not_from_false, le-leb}
 use Rattle.change.specs.Change.{Change, has, fault, fault_from, part_limit, most_parts}
 

@@ -1,5 +1,5 @@
 -- Laws of comparing runs: lists by their numbers, a line by its end, and a run that is written short with one that begins with all of its line.
-use Rattle.std.proofs.Common.{◌≡◌, ℕ, ◌+◌, ◌-◌, ◌*◌, ◌≤◌, Bool, true, false, cond, ◌&&◌, eqb, List, [], ◌∷◌, ◌++◌, length, get_or, take, drop, sym, refl, ap, ◌∙◌, ⊎_elim, arith, length-append, length-drop, take-append-drop}
+use Rattle.std.proofs.Common.{◌≡◌, ℕ, ◌+◌, ◌-◌, ◌≤◌, Bool, true, false, cond, ◌&&◌, eqb, List, [], ◌∷◌, ◌++◌, length, get_or, take, drop, sym, refl, ap, ◌∙◌, ⊎_elim, arith, length-append, length-drop, take-append-drop}
 use lib.Pointwise.{pointwise}
 use lib.Seq.{take-length}
 use Rattle.std.proofs.lemmas.List.{length-take-le, append-nil, append_assoc, append_cancel_left, take_at, drop_at, get_or-drop, get_or-take, drop_more, drop-drop, drop-take, take-take}

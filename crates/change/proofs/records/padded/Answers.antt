@@ -1,4 +1,4 @@
-use Rattle.std.proofs.Common.{sym, rules}
+use Rattle.std.proofs.Common.{sym}
 use Rattle.change.proofs.Rows.{fixed_over}
 use Rattle.change.proofs.records.padded.Goals as goal
 

@@ -1,5 +1,4 @@
-use Rattle.std.proofs.Common.{◌≡◌, ℕ, ◌+◌, ◌<◌, cond, List, length, get_or, take, sym, refl, ap, ◌∙◌, arith, length-set}
-use Rattle.change.specs.Change.{has}
+use Rattle.std.proofs.Common.{ℕ, ◌+◌, ◌<◌, cond, List, length, get_or, take, sym, refl, ap, ◌∙◌, arith, length-set}
 use Rattle.change.proofs.ChangeLaws.{any-has}
 use Rattle.change.proofs.Seen.{seen_same, seen_other, count_step}
 use Rattle.change.proofs.tally.count_parts.Goals as goal

@@ -1,4 +1,4 @@
-use Rattle.std.proofs.Common.{rules, length, inl, refl, ap, ◌∙◌, arith}
+use Rattle.std.proofs.Common.{rules, length, inl, ap, ◌∙◌, arith}
 use Rattle.std.proofs.lemmas.Iterator.Consumers.{YieldsList-from_first, YieldsList-from_filter, count_from_yields_List}
 use borrow.Author.Tests.{tests}
 use Rattle.change.specs.Change.{has}

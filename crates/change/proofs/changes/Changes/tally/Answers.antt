@@ -2,8 +2,7 @@ use Rattle.std.proofs.Common.{ℕ, length, arith, refl, ap}
 use lib.ListN.{get_or-replicate}
 use Rattle.change.specs.Change.{line}
 use Rattle.change.specs.Listed.{changes_of}
-use Rattle.change.specs.Records.{change_of}
-use Rattle.change.proofs.ChangeLaws.{length-line_le, line_more}
+use Rattle.change.proofs.ChangeLaws.{length-line_le}
 use Rattle.change.proofs.changes.Changes.tally.Goals as goal
 
 pub loop-c-init : goal.loop-c-init
@@ -14,9 +13,3 @@ loop-c-init c = (
 
 pub count_parts-requires : goal.count_parts-requires
 count_parts-requires c = λ p h. omega (arith, c.loop-c.invariant.0 p h, length-line_le p (changes_of c.args.self), c.requires)
-
-pub loop-c-preserved : goal.loop-c-preserved
-loop-c-preserved c = (
-  λ p h. omega (arith, c.count_parts.ensures p h, c.loop-c.invariant.0 p h, ap (λ l. length (line p l)) c.in-Some.ensures.steps, line_more p (change_of c.in-Some.c) (changes_of c.next.new.self)),
-  c.count_parts.array_long,
-)

@@ -1,12 +1,11 @@
-use Rattle.std.proofs.Common.{◌≡◌, ℕ, ◌+◌, ◌*◌, ◌<◌, ◌≤◌, true, false, eqb, List, [], ◌∷◌, ◌++◌, length, get_or, take, drop, sym, refl, ap, ◌∙◌, arith}
+use Rattle.std.proofs.Common.{◌≡◌, ℕ, ◌+◌, ◌*◌, ◌<◌, ◌≤◌, true, false, eqb, List, [], ◌∷◌, ◌++◌, length, get_or, drop, sym, refl, ap, ◌∙◌, arith}
 use Rattle.std.proofs.lemmas.List.{length_push}
 use Rattle.change.specs.Change.{Change, line}
 use Rattle.change.specs.Listed.{changes_of}
-use Rattle.change.specs.Records.{changes_in}
 use Rattle.std.specs.declared.slice.ChunksExact.{ChunksExact}
 use Rattle.change.proofs.Chunks.{Came, Left, left_all, chunk_inside, chunk_more, chunk_none, chunk_row}
 use Rattle.change.proofs.Rows.{rest, rest_none}
-use Rattle.run.specs.Layout.{landed_at, verdicts_at}
+use Rattle.run.specs.Layout.{verdicts_at}
 use Rattle.run.specs.Records.{run_in, run_of, run_width, verdict_in, verdict_width, verdicts_in}
 use Rattle.run.specs.Run.{heard, same_run}
 use Rattle.run.specs.declared.known.Known.{Known}

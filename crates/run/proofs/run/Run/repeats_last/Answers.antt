@@ -1,23 +1,15 @@
-use Rattle.std.proofs.Common.{◌≡◌, ℕ, ◌+◌, ◌-◌, true, List, [], ◌∷◌, ◌++◌, length, take, drop, sym, ap, ◌∙◌, arith}
-use Rattle.std.proofs.lemmas.List.{append-nil, append_assoc, drop_all, length-take}
+use Rattle.std.proofs.Common.{◌≡◌, ℕ, ◌-◌, List, [], ◌∷◌, ◌++◌, length, take, drop, sym, ap, ◌∙◌, arith}
+use Rattle.std.proofs.lemmas.List.{append_assoc}
 use Rattle.change.specs.Change.{line}
 use Rattle.change.specs.Listed.{changes_of}
 use Rattle.change.specs.Records.{change_of}
 use Rattle.run.proofs.Compared.{line_touched, line_passed, ends_true, ends_false, ends_more}
 use Rattle.run.proofs.run.Run.repeats_last.Goals as goal
 
-pub loop-c-init : goal.loop-c-init
-loop-c-init c = (
-  [],
-  ap (λ s. line c.args.part (changes_of s)) (sym (ap (λ r. r.iter) c.into_iter-c-iterator.ensures.into_iter_gives ∙ c.rev-c-items.ensures.source)) ∙ sym (append-nil _),
-  omega arith,
-  drop_all c.args.d (take c.args.d c.args.self.numbers) (omega (arith, length-take c.args.d c.args.self.numbers)),
-)
-
 pub returns-then-left-eq0 : goal.returns-then-left-eq0
 returns-then-left-eq0 c =
     let i = c.loop-c.invariant in
-    ends_true (line c.args.part (changes_of c.args.landed)) (line c.args.part (changes_of c.loop-c.c-iterator.iter)) i.0 c.args.self.numbers c.args.d i.1
+    ends_true (line c.args.part (changes_of c.args.landed)) _ i.0 c.args.self.numbers c.args.d i.1
     (omega (arith, i.2, c.if-left-eq0.true)) (sym (ap (λ u. drop u (take c.args.d c.args.self.numbers)) c.if-left-eq0.true) ∙ i.3)
 
 pub returns-then-c-self : goal.returns-then-c-self
@@ -26,9 +18,8 @@ returns-then-c-self c =
     let p : ℕ = c.args.part in
     let x = change_of c.in-Some.c in
     let A : List ℕ = line p (changes_of c.args.landed) in
-    let F : List ℕ = line p (changes_of c.next.new.self.iter) in
-    let e = line_touched p (changes_of c.loop-c.c-iterator.iter) (changes_of c.next.new.self.iter) x c.in-Some.ensures.steps (sym c.if-touches.ensures) in
-    ends_false A F i.0 c.args.self.numbers x.number c.args.d (c.loop-c.left - 1) (i.1 ∙ (ap (λ l. l ++ i.0) e ∙ append_assoc F (x.number ∷ []) i.0))
+    let e = line_touched p _ _ x c.in-Some.ensures.steps (sym c.if-touches.ensures) in
+    ends_false A _ i.0 c.args.self.numbers x.number c.args.d (c.loop-c.left - 1) (i.1 ∙ (ap (λ l. l ++ i.0) e ∙ append_assoc _ (x.number ∷ []) i.0))
     (omega (arith, i.2, c.if-left-eq0.false)) c.requires.there c.if-c-self.true
 
 pub loop-c-preserved-else-c-self : goal.loop-c-preserved-else-c-self
@@ -36,10 +27,9 @@ loop-c-preserved-else-c-self c =
     let i = c.loop-c.invariant in
     let p : ℕ = c.args.part in
     let x = change_of c.in-Some.c in
-    let F : List ℕ = line p (changes_of c.next.new.self.iter) in
-    let e = line_touched p (changes_of c.loop-c.c-iterator.iter) (changes_of c.next.new.self.iter) x c.in-Some.ensures.steps (sym c.if-touches.ensures) in (
+    let e = line_touched p _ _ x c.in-Some.ensures.steps (sym c.if-touches.ensures) in (
       x.number ∷ i.0,
-      i.1 ∙ (ap (λ l. l ++ i.0) e ∙ append_assoc F (x.number ∷ []) i.0),
+      i.1 ∙ (ap (λ l. l ++ i.0) e ∙ append_assoc _ (x.number ∷ []) i.0),
       omega (arith, i.2, c.if-left-eq0.false),
       ends_more i.0 (x.number ∷ i.0) c.args.self.numbers x.number c.args.d c.loop-c.left (c.loop-c.left - 1) (λ j. x.number ∷ i.0)
           (omega (arith, c.if-left-eq0.false)) (omega arith) i.2 c.if-c-self.false i.3,
@@ -48,7 +38,7 @@ loop-c-preserved-else-c-self c =
 pub loop-c-preserved : goal.loop-c-preserved
 loop-c-preserved c =
     let i = c.loop-c.invariant in
-    let e = line_passed c.args.part (changes_of c.loop-c.c-iterator.iter) (changes_of c.next.new.self.iter) (change_of c.in-Some.c) c.in-Some.ensures.steps (sym c.if-touches.ensures) in
+    let e = line_passed c.args.part _ _ (change_of c.in-Some.c) c.in-Some.ensures.steps (sym c.if-touches.ensures) in
     (i.0, i.1 ∙ ap (λ l. l ++ i.0) e, i.2, i.3)
 
 pub returns : goal.returns
@@ -58,4 +48,4 @@ returns c =
     let A : List ℕ = line p (changes_of c.args.landed) in
     let a : A ≡ i.0 = i.1 ∙ ap (λ l. line p l ++ i.0) c.in-None.ensures.steps.0 in
     let l : c.loop-c.left ≡ 0 = omega (arith, ap length a, i.2, c.requires.there) in
-    ends_true A (line p (changes_of c.loop-c.c-iterator.iter)) i.0 c.args.self.numbers c.args.d i.1 (omega (arith, i.2)) (sym (ap (λ u. drop u (take c.args.d c.args.self.numbers)) l) ∙ i.3)
+    ends_true A _ i.0 c.args.self.numbers c.args.d i.1 (omega (arith, i.2)) (sym (ap (λ u. drop u (take c.args.d c.args.self.numbers)) l) ∙ i.3)

@@ -9,7 +9,7 @@ use Rattle.change.proofs.ChangeLaws.{length-line_le}
 use Rattle.run.specs.Records.{run_of}
 use Rattle.run.specs.Run.{same_list}
 use Rattle.run.specs.declared.run.Run as declared
-use Rattle.run.proofs.Compared.{pointwise-same_list, run_long, other_part, other_changes, renewed, renewed_other}
+use Rattle.run.proofs.Compared.{pointwise-same_list, run_long, other_changes, renewed, renewed_other}
 use Rattle.run.proofs.run.Run.same_as.Goals as goal
 
 -- a run of the same part begins with no more than all
@@ -20,11 +20,6 @@ pub overflow_add-d : goal.overflow_add-d
 overflow_add-d c =
     let cs : List Change = changes_of c.args.landed in
     omega (arith, length-line_le c.args.top.part cs, length-rows change_in change_width c.args.landed.count c.args.landed.numbers.now, c.args.landed.within, c.ranges.landed.0, c.requires.all, c.args.top.few)
-
-pub returns-then-self-top : goal.returns-then-self-top
-returns-then-self-top c =
-    let cs : List Change = changes_of c.args.landed in
-    other_part (run_of cs c.args.self) (run_of cs c.args.top) c.if-self-top.true
 
 pub returns-then-self-d : goal.returns-then-self-d
 returns-then-self-d c =
