@@ -51,11 +51,11 @@ struct Section<'a, const WIDTH: usize> {
 
 impl<'a, const WIDTH: usize> Section<'a, WIDTH> {
     // The records from an index on, as many as the count at another index says.
-    fn of(queue: &'a [u64], count_at: usize, at: usize) -> Section<'a, WIDTH>
+    fn of(queue: &'a [u64], count_at: usize, at: usize) -> Self
         ensures count { result.count ≡ slice_index_or queue.now count_at 0 }
         ensures numbers { result.numbers.now ≡ drop at queue.now }
     {
-        Section {
+        Self {
             count: number_at(queue, count_at),
             numbers: past(queue, at),
         }
@@ -115,6 +115,7 @@ fn write_begun<W: fmt::Write>(
 {
     let mut led = false;
     let mut left = most;
+    // Not `filter` and `take`: a `for` over a closure's chain is refused in a function with a type parameter.
     for row in landed {
         if left > 0 && touches(row, part) {
             write_number(f, led, number_at(row, 0))?;
