@@ -1,6 +1,7 @@
 -- The texts of runs and of the state, from the numbers that the code reads. Assumes nothing.
-use Rattle.std.proofs.Common.{◌≡◌, ℕ, suc, ◌-◌, ◌<◌, ◌≤◌, min, Bool, true, false, cond, ◌||◌, List, [], ◌∷◌, ◌++◌, get_or, take, drop, codes, decimal, sym, refl, ap, ◌∙◌, subst, append_assoc, arith}
+use Rattle.std.proofs.Common.{◌≡◌, ℕ, suc, ◌-◌, ◌<◌, ◌≤◌, min, Bool, true, false, cond, ◌||◌, List, [], ◌∷◌, ◌++◌, get_or, take, drop, codes, decimal, sym, ap, ◌∙◌, subst, append_assoc, arith}
 use Rattle.std.specs.List.{flat_map}
+use Rattle.std.proofs.Math.Bool.{or-false, or-true}
 use Rattle.std.specs.Fmt.{IsPlainFormatter, HasWritten}
 use Rattle.std.specs.declared.fmt.Formatter.{Formatter}
 use Rattle.change.specs.Change.{Change, has, line}
@@ -36,20 +37,12 @@ module _ (p n m : ℕ) (xs ys row : List ℕ) (e : rows (λ l. l) change_width n
 pub begun_full : (left : ℕ) (ns ms : List ℕ) → left ≤ 0 → take left ns ≡ take left ms
 begun_full left ns ms le = let z : left ≡ 0 = omega arith in ap (λ u. take u ns) z ∙ sym (ap (λ u. take u ms) z)
 
-or_false : (b : Bool) → (b || false) ≡ b
-or_false true = refl
-or_false false = refl
-
-or_true : (b : Bool) → (b || true) ≡ true
-or_true true = refl
-or_true false = refl
-
 -- changes behind others
 pub text-append : (led : Bool) (ns ms : List ℕ) → changes_text led (ns ++ ms) ≡ changes_text led ns ++ changes_text (led || some ns) ms
-text-append led [] ms = ap (λ b. changes_text b ms) (sym (or_false led))
+text-append led [] ms = ap (λ b. changes_text b ms) (sym (or-false led))
 text-append led (n ∷ ns) ms =
     let mark = cond led (codes "+") [] in
-    ap (λ l. mark ++ (decimal n ++ l)) (text-append true ns ms ∙ ap (λ b. changes_text true ns ++ changes_text b ms) (sym (or_true led)))
+    ap (λ l. mark ++ (decimal n ++ l)) (text-append true ns ms ∙ ap (λ b. changes_text true ns ++ changes_text b ms) (sym (or-true led)))
     ∙ ap (λ l. mark ++ l) (sym (append_assoc (decimal n) (changes_text true ns) (changes_text (led || true) ms)))
     ∙ sym (append_assoc mark (decimal n ++ changes_text true ns) (changes_text (led || true) ms))
 
@@ -74,13 +67,13 @@ module _ {W : Type 0} (took : W → List ℕ → W → Type 0) (f : Formatter W)
 
   pub left_more : (led : Bool) (n : ℕ) (ns left : List ℕ) (g h : Formatter W) → Left led left g → left ≡ n ∷ ns → (IsPlainFormatter g → HasWritten took g (cond led (codes "+") [] ++ decimal n) h) → Left true ns h
   left_more led n ns left g h s e k =
-      (sofar_more took f _ _ g _ _ h s.0 (text_more led n ns left e) k, s.1 ∙ ap (λ l. led || some l) e ∙ or_true led)
+      (sofar_more took f _ _ g _ _ h s.0 (text_more led n ns left e) k, s.1 ∙ ap (λ l. led || some l) e ∙ or-true led)
 
   pub left-same : (led : Bool) (ns left : List ℕ) (g : Formatter W) → Left led left g → left ≡ ns → Left led ns g
   left-same led ns left g s e = subst (λ l. Left led l g) e s
 
   pub left-all : (led : Bool) (left : List ℕ) (g : Formatter W) → Left led left g → left ≡ [] → Begun took f all led g
-  left-all led left g s e = (sofar_all took f _ _ g s.0 (ap (changes_text led) e), sym (s.1 ∙ ap (λ l. led || some l) e ∙ or_false led))
+  left-all led left g s e = (sofar_all took f _ _ g s.0 (ap (changes_text led) e), sym (s.1 ∙ ap (λ l. led || some l) e ∙ or-false led))
 
 -- so many records, and the numbers that begin with them, are those of a section
 pub record Holds (xs : List ℕ) (count_at at n : ℕ) (ys : List ℕ) : Type 0 where
