@@ -1,9 +1,10 @@
 -- The texts of runs and of the state, from the numbers that the code reads. Assumes nothing.
-use Rattle.std.proofs.Common.{◌≡◌, ℕ, suc, ◌-◌, ◌<◌, ◌≤◌, min, Bool, true, false, cond, ◌||◌, List, [], ◌∷◌, ◌++◌, get_or, take, drop, codes, decimal, sym, ap, ◌∙◌, subst, append_assoc, arith}
+use Rattle.std.proofs.Common.{◌≡◌, ℕ, suc, ◌+◌, ◌-◌, ◌<◌, ◌≤◌, min, Bool, true, false, cond, ◌||◌, List, [], ◌∷◌, ◌++◌, get_or, take, drop, codes, decimal, sym, ap, ◌∙◌, subst, append_assoc, add-zero, arith}
 use Rattle.std.specs.List.{flat_map}
 use Rattle.std.proofs.Math.Bool.{or-false, or-true}
 use Rattle.std.specs.Fmt.{IsPlainFormatter, HasWritten}
 use Rattle.std.specs.declared.fmt.Formatter.{Formatter}
+use Rattle.std.proofs.lemmas.List.{get_or-drop, drop-drop}
 use Rattle.change.specs.Change.{Change, has, line}
 use Rattle.change.proofs.ChangeLaws.{line_touched}
 use Rattle.change.specs.Records.{rows, change_in, changes_in, change_width}
@@ -15,6 +16,12 @@ use Rattle.run.specs.Text.{changes_text}
 use Rattle.run.proofs.Writing.{Sofar, sofar_none, sofar_more, sofar_all, text_more}
 use Rattle.day.proofs.Writing.{rows_step}
 use Rattle.day.specs.Text.{change_text, run_text, line_text, some, Begun}
+
+-- the numbers behind a count that stands in others
+pub counted_at : (k most : ℕ) (xs ys : List ℕ) → ys ≡ drop k xs → take (min (get_or ys 0 0) most) (drop 1 ys) ≡ take (min (get_or xs k 0) most) (drop (k + 1) xs)
+counted_at k most xs ys e =
+    ap (λ l. take (min (get_or l 0 0) most) (drop 1 l)) e
+    ∙ (λ j. take (min ((get_or-drop k xs 0 0 ∙ ap (λ i. get_or xs i 0) (add-zero k)) j) most) (drop-drop 1 k xs j))
 
 module _ (p n m : ℕ) (xs ys row : List ℕ) (e : rows (λ l. l) change_width n xs ≡ row ∷ rows (λ l. l) change_width m ys) where
   -- what is left to write of the part's line, at a change that is written
