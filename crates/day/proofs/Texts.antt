@@ -1,8 +1,10 @@
 -- The texts of runs and of the state, from the numbers that the code reads. Assumes nothing.
-use Rattle.std.proofs.Common.{◌≡◌, ℕ, suc, ◌-◌, ◌<◌, ◌≤◌, min, Bool, true, false, cond, ◌||◌, List, [], ◌∷◌, ◌++◌, get_or, take, drop, codes, decimal, sym, refl, ap, ◌∙◌, subst, append_assoc, arith}
+use Rattle.std.proofs.Common.{◌≡◌, ℕ, suc, ◌+◌, ◌-◌, ◌<◌, ◌≤◌, min, Bool, true, false, cond, ◌||◌, List, [], ◌∷◌, ◌++◌, get_or, take, drop, codes, decimal, sym, ap, ◌∙◌, subst, append_assoc, add-zero, arith}
 use Rattle.std.specs.List.{flat_map}
+use Rattle.std.proofs.Math.Bool.{or-false, or-true}
 use Rattle.std.specs.Fmt.{IsPlainFormatter, HasWritten}
 use Rattle.std.specs.declared.fmt.Formatter.{Formatter}
+use Rattle.std.proofs.lemmas.List.{get_or-drop, drop-drop}
 use Rattle.change.specs.Change.{Change, has, line}
 use Rattle.change.proofs.ChangeLaws.{line_touched}
 use Rattle.change.specs.Records.{rows, change_in, changes_in, change_width}
@@ -14,6 +16,12 @@ use Rattle.run.specs.Text.{changes_text}
 use Rattle.run.proofs.Writing.{Sofar, sofar_none, sofar_more, sofar_all, text_more}
 use Rattle.day.proofs.Writing.{rows_step}
 use Rattle.day.specs.Text.{change_text, run_text, line_text, some, Begun}
+
+-- the numbers behind a count that stands in others
+pub counted_at : (k most : ℕ) (xs ys : List ℕ) → ys ≡ drop k xs → take (min (get_or ys 0 0) most) (drop 1 ys) ≡ take (min (get_or xs k 0) most) (drop (k + 1) xs)
+counted_at k most xs ys e =
+    ap (λ l. take (min (get_or l 0 0) most) (drop 1 l)) e
+    ∙ (λ j. take (min ((get_or-drop k xs 0 0 ∙ ap (λ i. get_or xs i 0) (add-zero k)) j) most) (drop-drop 1 k xs j))
 
 module _ (p n m : ℕ) (xs ys row : List ℕ) (e : rows (λ l. l) change_width n xs ≡ row ∷ rows (λ l. l) change_width m ys) where
   -- what is left to write of the part's line, at a change that is written
@@ -36,20 +44,12 @@ module _ (p n m : ℕ) (xs ys row : List ℕ) (e : rows (λ l. l) change_width n
 pub begun_full : (left : ℕ) (ns ms : List ℕ) → left ≤ 0 → take left ns ≡ take left ms
 begun_full left ns ms le = let z : left ≡ 0 = omega arith in ap (λ u. take u ns) z ∙ sym (ap (λ u. take u ms) z)
 
-or_false : (b : Bool) → (b || false) ≡ b
-or_false true = refl
-or_false false = refl
-
-or_true : (b : Bool) → (b || true) ≡ true
-or_true true = refl
-or_true false = refl
-
 -- changes behind others
 pub text-append : (led : Bool) (ns ms : List ℕ) → changes_text led (ns ++ ms) ≡ changes_text led ns ++ changes_text (led || some ns) ms
-text-append led [] ms = ap (λ b. changes_text b ms) (sym (or_false led))
+text-append led [] ms = ap (λ b. changes_text b ms) (sym (or-false led))
 text-append led (n ∷ ns) ms =
     let mark = cond led (codes "+") [] in
-    ap (λ l. mark ++ (decimal n ++ l)) (text-append true ns ms ∙ ap (λ b. changes_text true ns ++ changes_text b ms) (sym (or_true led)))
+    ap (λ l. mark ++ (decimal n ++ l)) (text-append true ns ms ∙ ap (λ b. changes_text true ns ++ changes_text b ms) (sym (or-true led)))
     ∙ ap (λ l. mark ++ l) (sym (append_assoc (decimal n) (changes_text true ns) (changes_text (led || true) ms)))
     ∙ sym (append_assoc mark (decimal n ++ changes_text true ns) (changes_text (led || true) ms))
 
@@ -74,13 +74,13 @@ module _ {W : Type 0} (took : W → List ℕ → W → Type 0) (f : Formatter W)
 
   pub left_more : (led : Bool) (n : ℕ) (ns left : List ℕ) (g h : Formatter W) → Left led left g → left ≡ n ∷ ns → (IsPlainFormatter g → HasWritten took g (cond led (codes "+") [] ++ decimal n) h) → Left true ns h
   left_more led n ns left g h s e k =
-      (sofar_more took f _ _ g _ _ h s.0 (text_more led n ns left e) k, s.1 ∙ ap (λ l. led || some l) e ∙ or_true led)
+      (sofar_more took f _ _ g _ _ h s.0 (text_more led n ns left e) k, s.1 ∙ ap (λ l. led || some l) e ∙ or-true led)
 
   pub left-same : (led : Bool) (ns left : List ℕ) (g : Formatter W) → Left led left g → left ≡ ns → Left led ns g
   left-same led ns left g s e = subst (λ l. Left led l g) e s
 
   pub left-all : (led : Bool) (left : List ℕ) (g : Formatter W) → Left led left g → left ≡ [] → Begun took f all led g
-  left-all led left g s e = (sofar_all took f _ _ g s.0 (ap (changes_text led) e), sym (s.1 ∙ ap (λ l. led || some l) e ∙ or_false led))
+  left-all led left g s e = (sofar_all took f _ _ g s.0 (ap (changes_text led) e), sym (s.1 ∙ ap (λ l. led || some l) e ∙ or-false led))
 
 -- so many records, and the numbers that begin with them, are those of a section
 pub record Holds (xs : List ℕ) (count_at at n : ℕ) (ys : List ℕ) : Type 0 where

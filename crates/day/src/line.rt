@@ -1,5 +1,5 @@
 // The line that is printed for a state, read from the queue's numbers.
-ghost use Rattle.std.specs.Prelude.{◌≡◌, take, drop, IfOk, Some, slice_index_or};
+ghost use Rattle.std.specs.Prelude.{◌≡◌, min, take, drop, IfOk, Some, slice_index, slice_index_or};
 ghost use Rattle.std.specs.Iterator.{YieldsFirstRef, item_count};
 ghost use Rattle.std.specs.List.{flat_map};
 ghost use Rattle.change.specs.Change.{has, line};
@@ -51,11 +51,11 @@ struct Section<'a, const WIDTH: usize> {
 
 impl<'a, const WIDTH: usize> Section<'a, WIDTH> {
     // The records from an index on, as many as the count at another index says.
-    fn of(queue: &'a [u64], count_at: usize, at: usize) -> Section<'a, WIDTH>
+    fn of(queue: &'a [u64], count_at: usize, at: usize) -> Self
         ensures count { result.count ≡ slice_index_or queue.now count_at 0 }
         ensures numbers { result.numbers.now ≡ drop at queue.now }
     {
-        Section {
+        Self {
             count: number_at(queue, count_at),
             numbers: past(queue, at),
         }
@@ -100,8 +100,15 @@ impl fmt::Display for Changes<'_> {
 fn touches(row: &[u64], part: u64) -> bool
     ensures { result ≡ has (change_in row.now).parts part }
 {
-    let count = number_at(row, 1).min(MOST_PARTS as u64);
-    first(past(row, 2), count as usize).contains(&part)
+    counted(past(row, 1), MOST_PARTS).contains(&part)
+}
+
+// The numbers behind a count: as many as it says, and at most so many.
+fn counted(numbers: &[u64], most: usize) -> &[u64]
+    ensures { result.now ≡ take (min (slice_index numbers.now 0) most) (drop 1 numbers.now) }
+{
+    let count = number_at(numbers, 0).min(most as u64);
+    first(past(numbers, 1), count as usize)
 }
 
 // Writes the landed changes that a run begins with, at most so many, and says whether there are any.
@@ -115,6 +122,7 @@ fn write_begun<W: fmt::Write>(
 {
     let mut led = false;
     let mut left = most;
+    // Not `filter` and `take`: a `for` over a closure's chain is refused in a function with a type parameter.
     for row in landed {
         if left > 0 && touches(row, part) {
             write_number(f, led, number_at(row, 0))?;
@@ -137,10 +145,9 @@ impl fmt::Display for Run<'_> {
     fn fmt<W: fmt::Write>(&self, f: &mut fmt::Formatter<W>) -> fmt::Result {
         let part = number_at(self.row, 0);
         let most = number_at(self.row, 1);
-        let following = number_at(self.row, 2).min(MOST_FOLLOWING as u64);
         write!(f, " {part}:")?;
         let led = write_begun(f, self.landed, part, most)?;
-        write_changes(f, led, first(past(self.row, 3), following as usize))
+        write_changes(f, led, counted(past(self.row, 2), MOST_FOLLOWING))
     }
 }
 
