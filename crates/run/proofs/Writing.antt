@@ -2,7 +2,7 @@
 use Rattle.std.proofs.Common.{◌≡◌, ℕ, Bool, true, cond, List, [], ◌∷◌, ◌++◌, codes, decimal, sym, ap, ◌∙◌, append_assoc, append-nil}
 use Rattle.std.specs.declared.fmt.Formatter.{Formatter}
 use Rattle.std.specs.Fmt.{IsPlainFormatter, HasWritten}
-use Rattle.std.proofs.Output.{has_written_append, has_written_of_eq}
+use Rattle.std.proofs.Output.{writes_in_calls_nil, has_written_append, has_written_of_eq}
 use Rattle.run.specs.Text.{changes_text}
 
 module _ {W : Type 0} (took : W → List ℕ → W → Type 0) where
@@ -11,6 +11,9 @@ module _ {W : Type 0} (took : W → List ℕ → W → Type 0) where
     pub done : List ℕ
     pub is : done ++ left ≡ whole
     pub put : IsPlainFormatter f → HasWritten took f done g
+
+  pub sofar_none : (f : Formatter W) (whole left : List ℕ) → left ≡ whole → Sofar f whole left f
+  sofar_none f whole left e = record { done = []; is = e; put = λ p. record { wrote = writes_in_calls_nil took _; plain = p } }
 
   pub sofar_more : (f : Formatter W) (whole left : List ℕ) (g : Formatter W) (piece rest : List ℕ) (h : Formatter W) →
       Sofar f whole left g → left ≡ piece ++ rest → (IsPlainFormatter g → HasWritten took g piece h) → Sofar f whole rest h
