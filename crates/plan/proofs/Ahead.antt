@@ -1,27 +1,14 @@
 -- Laws of runs that begin with all landed changes of their part, and of their rows.
-use Rattle.std.proofs.Common.{◌≡◌, ℕ, ◌+◌, ◌*◌, ◌<◌, true, false, List, [], ◌∷◌, ◌++◌, length, drop, sym, ap, ◌∙◌, ⊎_elim, arith}
-use Rattle.std.proofs.lemmas.List.{append_assoc, append-nil, drop-drop, length_push}
+use Rattle.std.proofs.Common.{◌≡◌, ℕ, ◌<◌, List, [], ◌∷◌, ◌++◌, length, sym, ap, ◌∙◌, ⊎_elim, arith}
+use Rattle.std.proofs.lemmas.List.{append_assoc, length_push}
 use Rattle.std.proofs.lemmas.Bool.{cases_Bool, false≢true}
-use Rattle.change.specs.Change.{Change, has, line}
-use Rattle.change.specs.Records.{change_in, changes_in, change_width}
-use Rattle.change.proofs.Rows.{rows_append}
+use Rattle.change.specs.Change.{Change, line}
 use Rattle.change.proofs.ChangeLaws.{line-append}
 use Rattle.run.specs.Limits.{most_following}
 use Rattle.run.specs.Run.{Run, same_list, same_run, run_on}
 use Rattle.run.specs.Records.{run_in, run_row, Ahead}
 use Rattle.run.proofs.Rows.{read_run_row}
 use Rattle.run.proofs.Compared.{same_list_refl, same_list_not, same_run_true, same_run_refl}
-
--- one change more
-module _ (xs : List ℕ) (base i p : ℕ) (x : Change) (is : x ≡ change_in (drop (base + change_width * i) xs)) where
-  next : changes_in (i + 1) (drop base xs) ≡ changes_in i (drop base xs) ++ x ∷ []
-  next = rows_append change_in change_width i 1 (drop base xs) ∙ ap (λ y. changes_in i (drop base xs) ++ y ∷ []) (ap change_in (drop-drop (change_width * i) base xs) ∙ sym is)
-
-  pub next_yes : has x.parts p ≡ true → line p (changes_in (i + 1) (drop base xs)) ≡ line p (changes_in i (drop base xs)) ++ x.number ∷ []
-  next_yes e = ap (line p) next ∙ (line-append p (changes_in i (drop base xs)) (x ∷ []) ∙ rw e)
-
-  pub next_no : has x.parts p ≡ false → line p (changes_in (i + 1) (drop base xs)) ≡ line p (changes_in i (drop base xs))
-  next_no e = ap (line p) next ∙ (line-append p (changes_in i (drop base xs)) (x ∷ []) ∙ rw e (append-nil _))
 
 -- a change's run on top of others begins with what landed of them
 pub run_on_is : (cs ws : List Change) (n p : ℕ) → line p (cs ++ ws) ++ n ∷ [] ≡ line p cs ++ (line p ws ++ n ∷ [])

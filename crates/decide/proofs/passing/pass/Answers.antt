@@ -1,13 +1,13 @@
 use Rattle.std.proofs.Common.{◌≡◌, ℕ, ◌+◌, ◌-◌, ◌*◌, ◌<◌, ◌≤◌, false, eqb, ◌||◌, List, [], ◌∷◌, ◌++◌, length, get_or, take, drop, sym, refl, ap, ◌∙◌, subst, arith}
 use Rattle.std.proofs.lemmas.List.{length_push}
-use Rattle.change.specs.Change.{Change, line}
+use Rattle.change.specs.Change.{Change}
 use Rattle.change.specs.Listed.{changes_of}
 use Rattle.change.specs.Records.{Tallies, change_of, changes_in}
 use Rattle.change.proofs.ChangeLaws.{length-line_le}
 use Rattle.change.proofs.Chunks.{left_all, chunk_inside, chunk_more, chunk_none, chunk_row}
 use Rattle.change.proofs.Rows.{rest, rest_none}
 use Rattle.run.specs.Layout.{verdicts_at, verdicts_count, waiting_at, waiting_count}
-use Rattle.run.specs.Numbers.{Begins, Settled, landed_in, waiting_in}
+use Rattle.run.specs.Numbers.{Begins, landed_in, waiting_in}
 use Rattle.run.specs.Records.{run_in, run_of, run_width, verdict_in, verdict_width, verdicts_in}
 use Rattle.run.specs.Run.{Verdict, heard, runs_on}
 use Rattle.run.proofs.Changed.{count_landed}

@@ -1,4 +1,4 @@
-use Rattle.std.proofs.Common.{◌≡◌, ℕ, List, get_or, drop, refl, ap, ◌∙◌, subst, arith}
+use Rattle.std.proofs.Common.{◌≡◌, ℕ, List, get_or, drop, ap, ◌∙◌, subst, arith}
 use Rattle.change.specs.Change.{Change}
 use Rattle.change.proofs.Rows.{length-rows}
 use Rattle.run.specs.Run.{Run, Verdict}

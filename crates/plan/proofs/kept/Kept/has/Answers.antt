@@ -1,6 +1,6 @@
-use Rattle.std.proofs.Common.{◌≡◌, ℕ, ◌+◌, ◌*◌, ◌<◌, ◌≤◌, Bool, ◌||◌, eqb, List, [], ◌∷◌, ◌++◌, length, take, drop, sym, refl, ap, ◌∙◌, zero-add, arith}
+use Rattle.std.proofs.Common.{◌≡◌, ℕ, ◌+◌, ◌*◌, ◌<◌, ◌≤◌, Bool, ◌||◌, eqb, List, [], ◌∷◌, ◌++◌, length, take, drop, sym, refl, ap, ◌∙◌, arith}
 use lib.Pointwise.{pointwise}
-use Rattle.std.proofs.lemmas.List.{length_push, take-take, take_all}
+use Rattle.std.proofs.lemmas.List.{length_push, take-take}
 use Rattle.std.specs.declared.slice.ChunksExact.{ChunksExact}
 use Rattle.change.proofs.Chunks.{Came, Left, chunk_inside, chunk_more, chunk_none, chunk_row}
 use Rattle.change.proofs.Rows.{rest, rest_all, rest_more}

@@ -1,14 +1,13 @@
-use Rattle.std.proofs.Common.{◌≡◌, ℕ, ◌+◌, ◌-◌, ◌*◌, ◌^◌, ◌<◌, ◌≤◌, min, Bool, inl, true, false, List, [], ◌∷◌, ◌++◌, length, get_or, take, drop, sym, refl, ap, ◌∙◌, subst, arith}
+use Rattle.std.proofs.Common.{◌≡◌, ℕ, ◌+◌, ◌-◌, ◌<◌, Bool, inl, true, false, List, ◌∷◌, ◌++◌, length, get_or, take, drop, sym, ap, ◌∙◌, arith}
 use native.Mathlib.Nat.{sub-zero}
 use Rattle.std.proofs.lemmas.List.{append-nil, length-take}
 use Rattle.change.specs.Change.{Change, line}
 use Rattle.change.specs.Listed.{changes_of}
-use Rattle.change.specs.Records.{change_in, change_of, change_width}
-use Rattle.change.proofs.Rows.{given_inside, given_is, given_more, length-rows, rest, rest_none}
+use Rattle.change.specs.Records.{change_of}
 use Rattle.run.specs.Run.{Run, runs_on, same_run}
 use Rattle.run.specs.Records.{run_of, run_row}
 use Rattle.run.specs.declared.run.Run as declared
-use Rattle.run.specs.Layout.{most_depth, depth_at, waiting_count, waiting_at}
+use Rattle.run.specs.Layout.{depth_at, waiting_count}
 use Rattle.run.specs.Numbers.{landed_in, waiting_in}
 use Rattle.run.proofs.Rows.{row_is}
 use Rattle.run.proofs.Compared.{run_long, same_run_true}

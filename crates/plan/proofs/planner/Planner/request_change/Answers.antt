@@ -1,15 +1,14 @@
-use Rattle.std.proofs.Common.{◌≡◌, ℕ, ◌+◌, ◌*◌, ◌<◌, ◌≤◌, cond, ◌&&◌, ltb, List, [], ◌∷◌, ◌++◌, length, get_or, drop, sym, ap, ◌∙◌, subst, arith}
-use Rattle.std.proofs.lemmas.List.{get_or-take, length-take-le, at_drop_all}
+use Rattle.std.proofs.Common.{◌≡◌, ℕ, ◌+◌, cond, ◌&&◌, ltb, List, [], ◌∷◌, ◌++◌, length, get_or, drop, sym, ap, ◌∙◌, subst, arith}
+use Rattle.std.proofs.lemmas.List.{at_drop_all}
 use Rattle.change.specs.Change.{Change, line}
 use Rattle.change.specs.Records.{change_in, change_of, change_width}
 use Rattle.change.proofs.Rows.{length-rows}
 use Rattle.change.proofs.ChangeLaws.{length-line_le}
-use Rattle.change.proofs.Tables.{length-table}
-use Rattle.run.specs.Run.{Run, Verdict, run_on, runs_on}
-use Rattle.run.specs.Records.{row_of, run_row, verdict_row, run_width, verdict_width, runs_in, verdicts_in, Ahead}
-use Rattle.run.specs.Layout.{benches_at, most_running, most_verdicts, waiting_at}
+use Rattle.run.specs.Run.{Run, Verdict, runs_on}
+use Rattle.run.specs.Records.{row_of, run_row, runs_in, verdicts_in, Ahead}
+use Rattle.run.specs.Layout.{benches_at, most_running, waiting_at}
 use Rattle.run.specs.Numbers.{landed_in}
-use Rattle.run.proofs.Rows.{length-run_row, length-verdict_row, row_is}
+use Rattle.run.proofs.Rows.{row_is}
 use Rattle.run.proofs.Round.{run-records}
 use Rattle.plan.specs.Plan.{lacks, request}
 use Rattle.plan.specs.Numbers.{first_waiting, requested_of, run_behind}

@@ -1,4 +1,4 @@
-use Rattle.std.proofs.Common.{◌≡◌, ℕ, ◌+◌, ◌-◌, ◌<◌, List, inl, ◌++◌, get_or, take, drop, sym, ap, ◌∙◌, subst, arith}
+use Rattle.std.proofs.Common.{◌≡◌, ℕ, ◌+◌, ◌-◌, List, inl, ◌++◌, get_or, take, drop, sym, ap, ◌∙◌, subst, arith}
 use native.Mathlib.Nat.{sub-zero}
 use Rattle.std.proofs.lemmas.List.{append-nil}
 use Rattle.change.specs.Change.{Change}
@@ -6,7 +6,7 @@ use Rattle.change.specs.Listed.{changes_of}
 use Rattle.change.specs.Records.{change_of}
 use Rattle.run.specs.Run.{Run, Verdict, runs_on}
 use Rattle.run.specs.Records.{runs_in, verdicts_in}
-use Rattle.run.specs.Layout.{benches_at, depth_at, waiting_count, waiting_at, most_running}
+use Rattle.run.specs.Layout.{benches_at, depth_at, waiting_count, most_running}
 use Rattle.run.specs.Numbers.{landed_in, waiting_in}
 use Rattle.run.proofs.Round.{run-records}
 use Rattle.plan.specs.Plan.{request, useful}
