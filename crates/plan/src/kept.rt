@@ -1,4 +1,4 @@
-// Records that planning keeps: one behind the other, and 0 where there is room for more.
+// Records that planning keeps: one behind the other, and 0 where there is room for more. An array and a count, as planning takes no memory.
 ghost use Rattle.std.specs.Prelude.{◌≡◌, ◌+◌, ◌*◌, ◌≤◌, length, replicate};
 ghost use Rattle.change.specs.Records.{written};
 ghost use Rattle.run.specs.Records.{run_width};

@@ -163,6 +163,7 @@ fn report(queue: &mut [u64], found: Checked, event: &[u64]) -> Reply
     let Ok(_requests) = requests else {
         return refused(requests);
     };
+    // The event is numbers: 1 says good.
     recording::record_report(queue, counts, place, event[2] == 1);
     advance(queue, found.tally)
 }

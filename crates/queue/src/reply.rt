@@ -39,7 +39,7 @@ pub enum Refusal {
 pub type Reply = Result<u64, Refusal>;
 
 impl Refusal {
-    // The refusal's number and its place.
+    // The refusal's number and its place. Not a `From`: a conversion to two numbers would not say which.
     pub fn code(self) -> (u64, u64)
         ensures number { result.0 ≡ (refusal_code self).number }
         ensures place { result.1 ≡ (refusal_code self).place }

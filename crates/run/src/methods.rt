@@ -130,6 +130,7 @@ impl Run {
             }
             let stored = read_run(verdict).within(self.begins);
             if stored.same_as(self, landed) {
+                // A `From<bool>` would serve this place alone.
                 return if says_good(verdict) {
                     Known::Good
                 } else {
