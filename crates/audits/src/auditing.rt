@@ -14,7 +14,7 @@ use std::alloc::{AllocError, Global};
 
 impl Verdict {
     // Whether it is a verdict on the part with these changes.
-    #[tactic(auto, using(run::proofs::Slices::same_list_by_eq))]
+    #[tactic(auto, using(run::proofs::Compared::same_list_by_eq))]
     pub fn is_of(&self, part: u64, changes: &[u64]) -> bool
         ensures { result ≡ same_run (record { part = part; changes = changes.now }) (verdict_of self.now).run }
     {

@@ -89,6 +89,12 @@ pub length-rows : {A : Type 0} (f : List ℕ → A) (w n : ℕ) (xs : List ℕ) 
 length-rows f w zero xs = refl
 length-rows f w (suc n) xs = ap suc (length-rows f w n (drop w xs))
 
+-- the first rows of more of them
+pub front_rows : {A : Type 0} (f : List ℕ → A) (w n i : ℕ) (xs : List ℕ) → i ≤ n → take i (rows f w n xs) ≡ rows f w i xs
+front_rows f w n i xs le =
+    let k : n ≡ i + (n - i) = omega arith in
+    ap (λ u. take i (rows f w u xs)) k ∙ (ap (take i) (rows_append f w i (n - i) xs) ∙ take_at (rows f w i xs) (rows f w (n - i) (drop (w * i) xs)) i (length-rows f w i xs))
+
 -- n rows are those before the i-th, the i-th, and those after it
 pub rows_split : {A : Type 0} (f : List ℕ → A) (w n i : ℕ) (xs : List ℕ) → i < n →
     rows f w n xs ≡ rows f w i xs ++ f (drop (w * i) xs) ∷ rows f w (n - (i + 1)) (drop (w * (i + 1)) xs)

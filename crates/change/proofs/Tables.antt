@@ -1,11 +1,17 @@
 -- Laws of a section that holds a record for each element of a list, and 0 behind them.
 use Rattle.std.proofs.Common.{◌≡◌, ℕ, ◌+◌, ◌-◌, ◌*◌, ◌<◌, ◌≤◌, List, [], ◌∷◌, ◌++◌, length, get_or, take, drop, replicate, sym, refl, ap, ◌∙◌, mul-zero, mul-suc, mul-add, arith, length-append, length-drop, take-append-drop}
+use native.Mathlib.Nat.{sub-zero}
 use lib.ListN.{length-replicate}
 use Rattle.std.proofs.lemmas.List.{append_assoc, append-nil, take_at, drop_at, drop-drop, drop-replicate, replicate-append-replicate, length-take-le, drop_more, length_push, get_or_at}
 use Rattle.std.specs.List.{AllByRecursion, flat_map}
 use Rattle.change.proofs.Rows.{rows_split, length-rows, rows_append, put_middle}
 use borrow.Rule.Slice.PartMut.{put_mid}
 use Rattle.change.specs.Records.{table, written, row_out, rows}
+
+-- a section that holds nothing is 0 everywhere
+pub table_none : {A : Type 0} (row : A → List ℕ) (n : ℕ) → table row n [] ≡ replicate n 0
+unfolding table
+table_none row n = ap (λ u. replicate u 0) (sub-zero n)
 
 module _ {A : Type 0} (row : A → List ℕ) where
   pub joined-append : (xs ys : List A) → flat_map row (xs ++ ys) ≡ flat_map row xs ++ flat_map row ys

@@ -4,7 +4,7 @@ use Rattle.std.proofs.ByRecursion.{All-get_or, All-push}
 use Rattle.std.proofs.lemmas.List.{append-nil, drop_all, drop_at, drop-drop, drop_more, length_push, length-take-le, take_all, take_at, take_more}
 use Rattle.change.specs.Change.{Change, without}
 use Rattle.change.specs.Records.{Tallies, change_in, change_width, changes_in, rows}
-use Rattle.change.proofs.Rows.{length-rows, rows_append}
+use Rattle.change.proofs.Rows.{front_rows}
 use Rattle.change.proofs.Tables.{get_d_rows}
 use Rattle.run.specs.Layout.{landed_count, most_landed, most_rejected, queue_length, rejected_count, verdicts_at, verdicts_count, waiting_at, waiting_count}
 use Rattle.run.specs.Numbers.{Sections, Settled, Small, decode, landed_in, rejected_in, waiting_in, whole, with_changes}
@@ -18,12 +18,6 @@ use Rattle.decide.specs.declared.decision.Decision.{Decision}
 use Rattle.decide.specs.declared.decision.Decision.TheVariants.{Wait, Land, Reject}
 use Rattle.decide.proofs.Looks.{decided, waits_behind}
 use Rattle.decide.proofs.Moves.{none, without_is, length_without, all_without}
-
--- the first rows of more of them
-front_rows : {A : Type 0} (f : List ℕ → A) (w n i : ℕ) (xs : List ℕ) → i ≤ n → take i (rows f w n xs) ≡ rows f w i xs
-front_rows f w n i xs le =
-    let k : n ≡ i + (n - i) = omega arith in
-    ap (λ u. take i (rows f w u xs)) k ∙ (ap (take i) (rows_append f w i (n - i) xs) ∙ take_at (rows f w i xs) (rows f w (n - i) (drop (w * i) xs)) i (length-rows f w i xs))
 
 -- what the pass makes of those from the i-th on, where those before it wait
 abbrev pub from : List Verdict → ℕ → List Change → List Change → List Change → Passed

@@ -4,7 +4,7 @@ use Rattle.std.proofs.lemmas.List.{take_all, take_more, append_assoc, append-nil
 use Rattle.std.proofs.lemmas.Bool.{eq-eqb, ne_eqb, cases_Bool, cases_eq, cases_lt, or_right, false≢true}
 use Rattle.change.specs.Change.{Change, has, line}
 use Rattle.change.specs.Records.{change_in, change_width, rows}
-use Rattle.change.proofs.Rows.{rows_append, length-rows}
+use Rattle.change.proofs.Rows.{front_rows, length-rows}
 use Rattle.change.proofs.ChangeLaws.{line-append, length-line_le}
 use Rattle.change.proofs.Tables.{get_d_rows}
 use Rattle.run.specs.Limits.{most_following}
@@ -19,7 +19,7 @@ use Rattle.run.proofs.Compared.{same_run_true, other_part, other_changes}
 use Rattle.plan.proofs.Ahead.{ahead_on}
 
 -- a run among two lists is among the one or the other
-among-parts : (r : Run) (xs ys : List Run) → among r (xs ++ ys) ≡ (among r xs || among r ys)
+pub among-parts : (r : Run) (xs ys : List Run) → among r (xs ++ ys) ≡ (among r xs || among r ys)
 among-parts r [] ys = refl
 among-parts r (x ∷ xs) ys = go (among-parts r xs ys) (same_run r x)
   where
@@ -95,12 +95,6 @@ useful-all d i before ws le = ⊎_elim
     (λ h. ap (useful (d - i) before) (drop_all i ws (omega arith)) ∙ useful_none before (d - i))
     (λ h. let z : d - i ≡ 0 = omega arith in ap (λ u. useful u before (drop i ws)) z)
     (cases_lt i d)
-
--- the first of some records
-front_rows : {A : Type 0} (f : List ℕ → A) (w n i : ℕ) (xs : List ℕ) → i ≤ n → take i (rows f w n xs) ≡ rows f w i xs
-front_rows f w n i xs le =
-    let k : n ≡ i + (n - i) = omega arith in
-    ap (λ u. take i (rows f w u xs)) k ∙ (ap (take i) (rows_append f w i (n - i) xs) ∙ take_at (rows f w i xs) (rows f w (n - i) (drop (w * i) xs)) i (length-rows f w i xs))
 
 -- the i-th that waits is looked at: a run is one of its own, or it is among the later ones if it is useful
 module _ (cs : List Change) (xs : List ℕ) (m d i : ℕ) (x : Change) (lm : i < m) (ld : i < d) (is : x ≡ change_in (drop (waiting_at + change_width * i) xs)) where

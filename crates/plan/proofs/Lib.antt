@@ -1,5 +1,5 @@
 mod Ahead
-mod Among
+pub mod Among
 mod Passed
 mod Holding
 mod Storing

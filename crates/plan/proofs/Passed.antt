@@ -67,10 +67,6 @@ pub kept_held : {A : Type 0} (row : A → List ℕ) (P : A → Type 0) (w most n
     xs ≡ table row (w * most) (kept t ys) → n ≡ length (kept t ys) → Holds row P w most n xs (kept t ys)
 kept_held row P w most n t h xs ys few e f = record { is = e; all = all-kept t P h ys; count = f; few = omega (arith, f, length-kept t ys) }
 
-pub table_none : {A : Type 0} (row : A → List ℕ) (n : ℕ) → replicate n 0 ≡ table row n []
-unfolding table
-table_none row n = ap (λ u. replicate u 0) (sym (sub-zero n))
-
 -- a stored run, as it was read from a part that is lent on, fits what has landed
 pub stored_at : (cs : List Change) (xs : List ℕ) (at w : ℕ) (r : declared.Run) → run_width ≤ w → r.part ≡ get_or (take w (drop at xs)) 0 0 → r.begins ≡ get_or (take w (drop at xs)) 1 0 →
     Begins cs (drop at xs) → r.begins ≤ length (line r.part cs)

@@ -1,22 +1,16 @@
 -- Laws of the whole queue: what is stored, and that it is the planned state.
 use Rattle.std.proofs.Common.{◌≡◌, ℕ, ◌+◌, ◌-◌, ◌*◌, ◌≤◌, List, [], ◌∷◌, length, get_or, drop, set, sym, refl, ap, ◌∙◌, arith}
 use borrow.Rule.Slice.PartMut.{put_mid}
-use Rattle.std.proofs.lemmas.List.FromFn.{fill_by_all}
 use Rattle.run.specs.Run.{Run, Verdict}
 use Rattle.run.specs.Records.{run_width, verdict_width}
 use Rattle.run.specs.Layout.{most_verdicts, most_running, benches_at, depth_at, landed_count, waiting_count, rejected_count, verdicts_count, running_count, requested_at, landed_at, verdicts_at, running_at, queue_length}
 use Rattle.run.specs.State.{Config, Queue}
 use Rattle.run.specs.Numbers.{Sections, sections, whole, config_in, landed_in, waiting_in, rejected_in, with_changes, encode, decode, Settled, Fits}
-use Rattle.run.proofs.Sections.{Sized, sized_sections, whole-sections, sections-whole, counters_as, verdicts_as, put_verdicts, put_running, get_counter}
+use Rattle.run.proofs.Sections.{Sized, sized_sections, whole-sections, sections-whole, counters_as, verdicts_as, put_verdicts, put_running, counters_are}
 use Rattle.run.proofs.Changed.{count_landed, count_waiting, count_rejected, fitting_settled, sized_changes}
 use Rattle.plan.specs.Plan.{still_running, still_known, request, planned}
 use Rattle.plan.specs.Numbers.{useful_now, verdicts_now, running_now, with_running}
 use Rattle.plan.specs.Rows.{HoldsRuns, HoldsVerdicts}
-
--- the counters one by one
-counters_are : (xs : List ℕ) → queue_length ≤ length xs → (sections xs).counters ≡
-    get_or xs benches_at 0 ∷ get_or xs depth_at 0 ∷ get_or xs landed_count 0 ∷ get_or xs waiting_count 0 ∷ get_or xs rejected_count 0 ∷ get_or xs verdicts_count 0 ∷ get_or xs running_count 0 ∷ get_or xs requested_at 0 ∷ []
-counters_are xs le = fill_by_all (λ k. get_or xs k 0) (sections xs).counters landed_at 0 (sized_sections xs le).counters (get_counter xs)
 
 -- three counters set, and two sections written over
 pub stored_is : (xs vs rs : List ℕ) (v r n : ℕ) → queue_length ≤ length xs → length vs ≡ verdict_width * most_verdicts →

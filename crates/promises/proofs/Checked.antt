@@ -7,7 +7,7 @@ use Rattle.std.proofs.lemmas.List.{drop_at, take-append-drop, drop-drop, get_or-
 use Rattle.queue.specs.declared.reply.Refusal.{Refusal}
 use Rattle.queue.specs.declared.reply.Refusal.TheVariants.{Malformed}
 use Rattle.run.proofs.Round.{decode_encode, sized_of}
-use Rattle.run.proofs.Sections.{Sized, sections-whole}
+use Rattle.run.proofs.Sections.{Sized, long-whole, sections-whole}
 use Rattle.change.proofs.ChangeLaws.{length-change_row}
 use Rattle.run.proofs.Rows.{length-run_row, length-verdict_row}
 use Rattle.change.specs.Change.{most_parts, Change, line}
@@ -124,24 +124,6 @@ pub record Says (t : Config) (q : Queue) (behind xs : List ℕ) : Type 0 where
   pub verdicts_count_is : get_or xs verdicts_count 0 ≡ length q.verdicts
   pub running_count_is : get_or xs running_count 0 ≡ length q.running
   pub requested_is : get_or xs requested_at 0 ≡ q.requested
-
--- the numbers are as long as the layout says
-long-whole : (s : Sections) → Sized s → queue_length ≤ length (whole s)
-long-whole s z = omega (
-  arith,
-  z.counters,
-  z.landed,
-  z.waiting,
-  z.rejected,
-  z.verdicts,
-  z.running,
-  length-append s.counters (s.landed ++ (s.waiting ++ (s.rejected ++ (s.verdicts ++ (s.running ++ s.behind))))),
-  length-append s.landed (s.waiting ++ (s.rejected ++ (s.verdicts ++ (s.running ++ s.behind)))),
-  length-append s.waiting (s.rejected ++ (s.verdicts ++ (s.running ++ s.behind))),
-  length-append s.rejected (s.verdicts ++ (s.running ++ s.behind)),
-  length-append s.verdicts (s.running ++ s.behind),
-  length-append s.running s.behind,
-)
 
 -- the numbers of a queue that fits say it
 pub says-encode : (t : Config) (q : Queue) (behind : List ℕ) → Fits q → Says t q behind (encode t q behind)

@@ -18,7 +18,8 @@ use Rattle.promises.proofs.Serial.{all-at}
 use Rattle.promises.proofs.Pass.{Lands, Rejects, pass_all}
 use Rattle.promises.proofs.Marks.{numbered-place}
 use Rattle.promises.proofs.Days.{log-keeps}
-use Rattle.promises.proofs.Runs.{among_head, among-append, among-left, among_right, among_cases, among_one, Sub, all_from, among-kept, different-kept, different-append, different_both, different_apart, pigeons}
+use Rattle.plan.proofs.Among.{among-parts}
+use Rattle.promises.proofs.Runs.{among_head, among-left, among_right, among_cases, among_one, Sub, all_from, among-kept, different-kept, different-append, different_both, different_apart, pigeons}
 use Rattle.promises.proofs.Useful.{Proper, length-runs_on, useful_more, useful-land, last, runs_last, useful-last, different-runs, useful-few, useful-parts}
 use Rattle.promises.proofs.Held.{Neat, neat-land, neat-reject, neat-recorded, known, unknown_is, moved, kept_append, still_held, Replanned, Orderly, ready, orderly-step, orderly-empty}
 use Rattle.promises.proofs.Idle.{useful_none}
@@ -236,7 +237,7 @@ requests_are : (t : Config) (q : Queue) (e : Event) → accepts t q e ≡ true �
 requests_are t q e a k =
     ap (kept test) k.running_is ∙ kept_append test still k.new
     ∙ ap₂ ◌++◌ (kept_none test still (λ r h. ap not (running_sub q e r (both_right (among r us) (among r p.running) (sym (among-kept (λ s. among s us) r p.running) ∙ h)))))
-    (kept-all test k.new (all_from (λ r. test r ≡ true) k.new (λ r h. ap not (neither_right (among r (known q.verdicts)) (among r q.running) (sym (among-append r (known q.verdicts) q.running) ∙ new_not_held t q e a k r h)))))
+    (kept-all test k.new (all_from (λ r. test r ≡ true) k.new (λ r h. ap not (neither_right (among r (known q.verdicts)) (among r q.running) (sym (among-parts r (known q.verdicts) q.running) ∙ new_not_held t q e a k r h)))))
   where
     p : Queue
     p = decided (recorded q e)

@@ -19,7 +19,8 @@ use Rattle.promises.proofs.Serial.{all-out, all-at}
 use Rattle.promises.proofs.Pass.{pass_all}
 use Rattle.promises.proofs.Marks.{numbered-place, Distinct, distinct_push, numbered-dropped, distinct-dropped}
 use Rattle.promises.proofs.Days.{day_keeps, fresh-number}
-use Rattle.promises.proofs.Runs.{among_head, among-append, among-left, among_right, among_cases, among_one, among-place, Sub, all_from, among-kept, different-kept, different_push}
+use Rattle.plan.proofs.Among.{among-parts}
+use Rattle.promises.proofs.Runs.{among_head, among-left, among_right, among_cases, among_one, among-place, Sub, all_from, among-kept, different-kept, different_push}
 use Rattle.promises.proofs.Useful.{Proper, proper_is}
 
 -- CHANGES. L has landed, W waits, B was rejected.
@@ -131,7 +132,7 @@ unknown_is r (v ∷ vs) = go (unknown_is r vs) (same_run r v.run) v.good
     go ih false g = ih
 
 lacks_is : (vs : List Verdict) (rs : List Run) (u : Run) → lacks vs rs u ≡ not (among u (known vs ++ rs))
-lacks_is vs rs u = ap (λ (b : Bool). b && not (among u rs)) (unknown_is u vs) ∙ neither (among u (known vs)) (among u rs) ∙ ap not (sym (among-append u (known vs) rs))
+lacks_is vs rs u = ap (λ (b : Bool). b && not (among u rs)) (unknown_is u vs) ∙ neither (among u (known vs)) (among u rs) ∙ ap not (sym (among-parts u (known vs) rs))
   where
     neither : (a b : Bool) → (not a && not b) ≡ not (a || b)
     neither true b = refl
@@ -152,7 +153,7 @@ taken_out (suc i) (r ∷ rs) l =
     record { before = r ∷ k.before; behind = k.behind; is = ap (λ (xs : List Run). r ∷ xs) k.is; left = ap (λ (xs : List Run). r ∷ xs) k.left }
 
 among_moved : (x : Run) (K A : List Run) (r : Run) (B : List Run) → among x (K ++ r ∷ (A ++ B)) ≡ among x (K ++ (A ++ r ∷ B))
-among_moved x K A r B = among-append x K (r ∷ (A ++ B)) ∙ ap (◌||◌ (among x K)) (sym (among-place x A r B)) ∙ sym (among-append x K (A ++ r ∷ B))
+among_moved x K A r B = among-parts x K (r ∷ (A ++ B)) ∙ ap (◌||◌ (among x K)) (sym (among-place x A r B)) ∙ sym (among-parts x K (A ++ r ∷ B))
 
 -- a run that moves leaves the others different
 different_moved : (K A : List Run) (r : Run) (B : List Run) → Different (K ++ (A ++ r ∷ B)) → Different (K ++ r ∷ (A ++ B))

@@ -1,11 +1,12 @@
 -- Lists of runs: which runs stand in them, and how many different ones there can be. Assumes nothing.
 use Rattle.std.proofs.Common.{◌≡◌, suc, ◌≤◌, Bool, true, false, cond, ◌&&◌, ◌||◌, ◌⊎◌, List, [], ◌∷◌, ◌++◌, length, sym, refl, ap, ◌∙◌, subst, inl, inr, true≢false, arith}
-use mathlib.Core.Bool.{and-false, or-true, or-false, or_assoc}
+use mathlib.Core.Bool.{and-false, or-true, or-false}
 use Rattle.std.proofs.lemmas.Bool.{or_from, or_cases}
 use Rattle.std.specs.List.{AllByRecursion}
 use Rattle.run.proofs.Compared.{same_run_true, same_run_refl}
 use Rattle.run.specs.Run.{Run, same_run}
 use Rattle.plan.specs.Plan.{among, kept}
+use Rattle.plan.proofs.Among.{among-parts}
 use Rattle.promises.specs.Day.{Different}
 use Rattle.promises.proofs.Basics.{clash, not_so, neither_left, neither_right, or_swap, length-place}
 
@@ -13,27 +14,23 @@ use Rattle.promises.proofs.Basics.{clash, not_so, neither_left, neither_right, o
 pub among_head : (r : Run) (rs : List Run) → among r (r ∷ rs) ≡ true
 among_head r rs = ap (λ (b : Bool). b || among r rs) (same_run_refl r)
 
-pub among-append : (r : Run) (xs ys : List Run) → among r (xs ++ ys) ≡ (among r xs || among r ys)
-among-append r [] ys = refl
-among-append r (x ∷ xs) ys = ap (◌||◌ (same_run r x)) (among-append r xs ys) ∙ sym (or_assoc (same_run r x) (among r xs) (among r ys))
-
 pub among-left : (r : Run) (xs ys : List Run) → among r xs ≡ true → among r (xs ++ ys) ≡ true
-among-left r xs ys e = among-append r xs ys ∙ ap (λ (b : Bool). b || among r ys) e
+among-left r xs ys e = among-parts r xs ys ∙ ap (λ (b : Bool). b || among r ys) e
 
 pub among_right : (r : Run) (xs ys : List Run) → among r ys ≡ true → among r (xs ++ ys) ≡ true
-among_right r xs ys e = among-append r xs ys ∙ ap (◌||◌ (among r xs)) e ∙ or-true (among r xs)
+among_right r xs ys e = among-parts r xs ys ∙ ap (◌||◌ (among r xs)) e ∙ or-true (among r xs)
 
 pub among_cases : (r : Run) (xs ys : List Run) → among r (xs ++ ys) ≡ true → (among r xs ≡ true) ⊎ (among r ys ≡ true)
-among_cases r xs ys e = or_cases (among r xs) (among r ys) (sym (among-append r xs ys) ∙ e)
+among_cases r xs ys e = or_cases (among r xs) (among r ys) (sym (among-parts r xs ys) ∙ e)
 
 among_neither : (r : Run) (xs ys : List Run) → among r xs ≡ false → among r ys ≡ false → among r (xs ++ ys) ≡ false
-among_neither r xs ys e h = among-append r xs ys ∙ or_from (among r xs) (among r ys) e h
+among_neither r xs ys e h = among-parts r xs ys ∙ or_from (among r xs) (among r ys) e h
 
 pub among_one : (r s : Run) → among r (s ∷ []) ≡ true → r ≡ s
 among_one r s e = same_run_true r s (sym (or-false (same_run r s)) ∙ e)
 
 pub among-place : (x : Run) (A : List Run) (r : Run) (B : List Run) → among x (A ++ r ∷ B) ≡ (same_run x r || among x (A ++ B))
-among-place x A r B = among-append x A (r ∷ B) ∙ or_swap (among x A) (same_run x r) (among x B) ∙ ap (◌||◌ (same_run x r)) (sym (among-append x A B))
+among-place x A r B = among-parts x A (r ∷ B) ∙ or_swap (among x A) (same_run x r) (among x B) ∙ ap (◌||◌ (same_run x r)) (sym (among-parts x A B))
 
 -- all of one list stand in the other
 abbrev pub Sub : List Run → List Run → Type 0
@@ -71,12 +68,12 @@ different-append (x ∷ xs) ys n m k = (among_neither x xs ys n.0 (k x (among_he
 
 pub different_both : (xs ys : List Run) → Different (xs ++ ys) → Different xs × Different ys
 different_both [] ys d = (tt, d)
-different_both (x ∷ xs) ys d = let k = different_both xs ys d.1 in ((neither_left (among x xs) (among x ys) (sym (among-append x xs ys) ∙ d.0), k.0), k.1)
+different_both (x ∷ xs) ys d = let k = different_both xs ys d.1 in ((neither_left (among x xs) (among x ys) (sym (among-parts x xs ys) ∙ d.0), k.0), k.1)
 
 pub different_apart : (xs ys : List Run) → Different (xs ++ ys) → (r : Run) → among r xs ≡ true → among r ys ≡ false
 different_apart [] ys d r e = absurd (true≢false (sym e))
 different_apart (x ∷ xs) ys d r e = elim (among_cases r (x ∷ []) xs e) [
-  | inl j ↦ neither_right (among r xs) (among r ys) (sym (among-append r xs ys) ∙ subst (λ (s : Run). among s (xs ++ ys) ≡ false) (sym (among_one r x j)) d.0)
+  | inl j ↦ neither_right (among r xs) (among r ys) (sym (among-parts r xs ys) ∙ subst (λ (s : Run). among s (xs ++ ys) ≡ false) (sym (among_one r x j)) d.0)
   | inr j ↦ different_apart xs ys d.1 r j
 ]
 

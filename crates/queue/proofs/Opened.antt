@@ -1,18 +1,13 @@
 -- Laws of opening: 0 everywhere and then the config is how an empty queue is written.
 use Rattle.std.proofs.Common.{◌≡◌, ℕ, ◌+◌, ◌*◌, List, [], ◌∷◌, ◌++◌, set, replicate, sym, ap, ◌∙◌}
-use native.Mathlib.Nat.{sub-zero}
 use Rattle.std.proofs.lemmas.List.{append_assoc, replicate-append-replicate}
-use Rattle.change.specs.Records.{change_row, change_width, table}
+use Rattle.change.specs.Records.{change_row, change_width}
+use Rattle.change.proofs.Tables.{table_none}
 use Rattle.run.specs.Records.{run_row, run_width, verdict_row, verdict_width}
 use Rattle.run.specs.Layout.{most_landed, most_waiting, most_rejected, most_verdicts, most_running, benches_at, depth_at, queue_length}
 use Rattle.run.specs.State.{empty}
 use Rattle.run.specs.Numbers.{encode}
 use Rattle.queue.specs.Entry.{config}
-
--- a section that holds nothing is 0 everywhere
-table_none : {A : Type 0} (row : A → List ℕ) (n : ℕ) → table row n [] ≡ replicate n 0
-unfolding table
-table_none row n = ap (λ u. replicate u 0) (sub-zero n)
 
 -- two stretches of 0, one behind the other
 zeros : (a b : ℕ) (xs : List ℕ) → replicate a 0 ++ (replicate b 0 ++ xs) ≡ replicate (a + b) 0 ++ xs

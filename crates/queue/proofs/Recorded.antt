@@ -5,7 +5,6 @@ use Rattle.std.specs.Option.{option_map}
 use Rattle.std.proofs.lemmas.List.{length-take-le, length_push, append-nil}
 use Rattle.std.proofs.ByRecursion.{All-push}
 use Rattle.std.specs.List.{AllByRecursion}
-use Rattle.std.proofs.lemmas.List.FromFn.{fill_by_all}
 use Rattle.change.specs.Change.{Change, place_of, dropped, without}
 use Rattle.change.specs.Records.{change_row, change_width, changes_in, table, row_out}
 use Rattle.run.specs.Layout.{most_landed, most_waiting, most_rejected, benches_at, depth_at, landed_count, waiting_count, rejected_count, verdicts_count, running_count, requested_at, landed_at, waiting_at, rejected_at, queue_length}
@@ -15,7 +14,7 @@ use Rattle.decide.proofs.Moves.{section_less, length_without, all_without}
 use Rattle.queue.specs.Queue.{with_waiting}
 use Rattle.queue.specs.Stages.{Roomy, Sound, Says}
 use Rattle.queue.specs.declared.counts.Counts.{Counts}
-use Rattle.run.proofs.Sections.{Sized, landed_as, waiting_as, put_landed, put_waiting, put_rejected, get_counter, whole-sections, sized_sections, sections-whole}
+use Rattle.run.proofs.Sections.{Sized, landed_as, waiting_as, put_landed, put_waiting, put_rejected, counters_are, whole-sections, sized_sections, sections-whole}
 use Rattle.run.proofs.Changed.{section_long, count_landed, count_waiting, count_rejected, small_changes, Fitting, runs_settled, settled_changed, decode_changed, waiting-written, config_changed, behind_changed}
 use Rattle.run.proofs.Round.{change_records, rows_section}
 
@@ -27,11 +26,6 @@ section_anew at most n k xs part ys long is e few h =
     let l : length part ≡ change_width * most = ap length is ∙ length-take-le (change_width * most) (drop at xs) enough in
     let r : changes_in n part ≡ changes_in k (drop at xs) = ap (changes_in n) is ∙ (rows_section change_records n (change_width * most) (drop at xs) (omega arith) enough ∙ ap (λ u. changes_in u (drop at xs)) e) in
     h ∙ (λ i. table change_row (l i) (r i))
-
--- the counters, one by one
-counters_are : (xs : List ℕ) → queue_length ≤ length xs →
-    (sections xs).counters ≡ get_or xs benches_at 0 ∷ get_or xs depth_at 0 ∷ get_or xs landed_count 0 ∷ get_or xs waiting_count 0 ∷ get_or xs rejected_count 0 ∷ get_or xs verdicts_count 0 ∷ get_or xs running_count 0 ∷ get_or xs requested_at 0 ∷ []
-counters_are xs long = fill_by_all (λ k. get_or xs k 0) (sections xs).counters landed_at 0 (sized_sections xs long).counters (get_counter xs)
 
 -- numbers that are these sections, one of which is written over
 sized_landed : (s : Sections) (ys : List ℕ) → Sized s → length ys ≡ change_width * most_landed → Sized (landed_as ys s)

@@ -35,6 +35,9 @@ pointwise-same_list [] (y ∷ ys) = refl
 pointwise-same_list (x ∷ xs) [] = refl
 pointwise-same_list (x ∷ xs) (y ∷ ys) = ap (λ b. eqb x y && b) (pointwise-same_list xs ys)
 
+pub same_list_by_eq : (r : Bool) (xs ys : List ℕ) → r ≡ pointwise eqb xs ys → r ≡ same_list xs ys
+same_list_by_eq r xs ys e = e ∙ pointwise-same_list xs ys
+
 -- the test for the same run
 pub same_run_true : (a b : Run) → same_run a b ≡ true → a ≡ b
 same_run_true a b e =

@@ -1,11 +1,12 @@
 -- Laws of a queue by its sections: cutting a slice into them, joining them, and writing over one of them.
 use Rattle.std.proofs.Common.{◌≡◌, ℕ, ◌+◌, ◌*◌, ◌<◌, ◌≤◌, List, [], ◌∷◌, ◌++◌, length, get_or, take, drop, sym, refl, ap, ◌∙◌, arith, length-append, length-drop, take-append-drop}
 use borrow.Rule.Slice.PartMut.{put_mid}
+use Rattle.std.proofs.lemmas.List.FromFn.{fill_by_all}
 use lib.Seq.{take-append-add, drop-append-add}
 use Rattle.std.proofs.lemmas.List.{length-take-le, append_assoc, take_at, drop_at, drop-drop, get_or-take}
 use Rattle.change.specs.Records.{change_width}
 use Rattle.run.specs.Records.{run_width, verdict_width}
-use Rattle.run.specs.Layout.{most_landed, most_waiting, most_rejected, most_verdicts, most_running, landed_at, waiting_at, rejected_at, verdicts_at, running_at, queue_length}
+use Rattle.run.specs.Layout.{most_landed, most_waiting, most_rejected, most_verdicts, most_running, benches_at, depth_at, landed_count, waiting_count, rejected_count, verdicts_count, running_count, requested_at, landed_at, waiting_at, rejected_at, verdicts_at, running_at, queue_length}
 use Rattle.run.specs.Numbers.{Sections, sections, whole}
 
 -- each section is as long as the layout says
@@ -159,6 +160,11 @@ sections-whole s z =
     let running = take_behind (before_running s) s.running _ running_at (run_width * most_running) (running_begins s z) z.running in
     let behind = drop-behind (before_behind s) s.behind queue_length (behind_begins s z) in
     λ i. record { counters = counters i; landed = landed i; waiting = waiting i; rejected = rejected i; verdicts = verdicts i; running = running i; behind = behind i }
+
+-- the counters, one by one
+pub counters_are : (xs : List ℕ) → queue_length ≤ length xs →
+    (sections xs).counters ≡ get_or xs benches_at 0 ∷ get_or xs depth_at 0 ∷ get_or xs landed_count 0 ∷ get_or xs waiting_count 0 ∷ get_or xs rejected_count 0 ∷ get_or xs verdicts_count 0 ∷ get_or xs running_count 0 ∷ get_or xs requested_at 0 ∷ []
+counters_are xs long = fill_by_all (λ k. get_or xs k 0) (sections xs).counters landed_at 0 (sized_sections xs long).counters (get_counter xs)
 
 -- sections of the right lengths, joined, are long enough
 pub long-whole : (s : Sections) → Sized s → queue_length ≤ length (whole s)

@@ -12,14 +12,15 @@ use Rattle.run.proofs.Rows.{run_in_row, length-run_row}
 use Rattle.plan.specs.Plan.{among, still_running}
 use Rattle.plan.specs.Numbers.{useful_now}
 use Rattle.plan.proofs.Among.{useful_ahead}
-use Rattle.plan.proofs.Passed.{keep_yes, keep_no, kept_held, table_none, stored_at}
+use Rattle.change.proofs.Tables.{table_none}
+use Rattle.plan.proofs.Passed.{keep_yes, keep_no, kept_held, stored_at}
 use Rattle.plan.proofs.planner.Planner.keep_running.Goals as goal
 
 pub loop-row-init : goal.loop-row-init
 loop-row-init c =
     let rows = c.records_at-row-items.ensures in (
       left_all run_width (get_or c.args.self.queue.now running_count 0) running_at c.args.self.queue.now _ _ c.into_iter-row-iterator.ensures.into_iter_gives rows.size rows.rest,
-      c.none-kept.ensures.numbers ∙ table_none (run_row (landed_in c.args.self.queue.now)) (run_width * most_running),
+      c.none-kept.ensures.numbers ∙ sym (table_none (run_row (landed_in c.args.self.queue.now)) (run_width * most_running)),
       c.none-kept.ensures.count,
       omega (arith, c.none-kept.ensures.count),
       omega arith,

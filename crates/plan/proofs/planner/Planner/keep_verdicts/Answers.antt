@@ -13,7 +13,8 @@ use Rattle.run.proofs.Rows.{run_in_row, length-verdict_row}
 use Rattle.plan.specs.Plan.{among, still_known}
 use Rattle.plan.specs.Numbers.{useful_now}
 use Rattle.plan.proofs.Among.{useful_ahead}
-use Rattle.plan.proofs.Passed.{keep_yes, keep_no, kept_held, table_none, stored_at}
+use Rattle.change.proofs.Tables.{table_none}
+use Rattle.plan.proofs.Passed.{keep_yes, keep_no, kept_held, stored_at}
 use Rattle.plan.proofs.planner.Planner.keep_verdicts.Goals as goal
 
 -- the row that is written is the verdict's
@@ -28,7 +29,7 @@ pub loop-verdict-init : goal.loop-verdict-init
 loop-verdict-init c =
     let rows = c.records_at-verdict-items.ensures in (
       left_all verdict_width (get_or c.args.self.queue.now verdicts_count 0) verdicts_at c.args.self.queue.now _ _ c.into_iter-verdict-iterator.ensures.into_iter_gives rows.size rows.rest,
-      c.none-kept.ensures.numbers ∙ table_none (verdict_row (landed_in c.args.self.queue.now)) (verdict_width * most_verdicts),
+      c.none-kept.ensures.numbers ∙ sym (table_none (verdict_row (landed_in c.args.self.queue.now)) (verdict_width * most_verdicts)),
       c.none-kept.ensures.count,
       omega (arith, c.none-kept.ensures.count),
       omega arith,
