@@ -3,7 +3,7 @@ use Rattle.std.proofs.Common.{◌≡◌, ℕ, ◌+◌, ◌-◌, ◌*◌, ◌<◌
 use Rattle.std.proofs.ByRecursion.{All-get_or, All-push}
 use Rattle.std.proofs.lemmas.List.{append-nil, drop_all, drop_at, drop-drop, drop_more, length_push, length-take-le, take_all, take_at, take_more}
 use Rattle.change.specs.Change.{Change, without}
-use Rattle.change.specs.Records.{Tallies, change_in, change_width, changes_in, rows}
+use Rattle.change.specs.Records.{Tallies, change_in, change_width, changes_in}
 use Rattle.change.proofs.Rows.{front_rows}
 use Rattle.change.proofs.Tables.{get_d_rows}
 use Rattle.run.specs.Layout.{landed_count, most_landed, most_rejected, queue_length, rejected_count, verdicts_at, verdicts_count, waiting_at, waiting_count}

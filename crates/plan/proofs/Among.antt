@@ -1,9 +1,9 @@
 -- Laws of useful runs: which of them a run can be, and that each begins with all landed changes of its part.
 use Rattle.std.proofs.Common.{◌≡◌, ℕ, zero, suc, ◌+◌, ◌-◌, ◌*◌, ◌<◌, ◌≤◌, min, Bool, true, false, ◌||◌, List, [], ◌∷◌, ◌++◌, length, get_or, take, drop, sym, refl, ap, ◌∙◌, subst, ⊎_elim, arith, length-append}
-use Rattle.std.proofs.lemmas.List.{take_all, take_more, append_assoc, append-nil, drop_all, take_at, drop_more, drop-drop, length_push, same_from_push}
+use Rattle.std.proofs.lemmas.List.{take_all, take_more, append_assoc, append-nil, drop_all, drop_more, drop-drop, length_push, same_from_push}
 use Rattle.std.proofs.lemmas.Bool.{eq-eqb, ne_eqb, cases_Bool, cases_eq, cases_lt, or_right, false≢true}
 use Rattle.change.specs.Change.{Change, has, line}
-use Rattle.change.specs.Records.{change_in, change_width, rows}
+use Rattle.change.specs.Records.{change_in, change_width}
 use Rattle.change.proofs.Rows.{front_rows, length-rows}
 use Rattle.change.proofs.ChangeLaws.{line-append, length-line_le}
 use Rattle.change.proofs.Tables.{get_d_rows}

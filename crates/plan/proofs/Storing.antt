@@ -3,7 +3,7 @@ use Rattle.std.proofs.Common.{◌≡◌, ℕ, ◌+◌, ◌-◌, ◌*◌, ◌≤�
 use borrow.Rule.Slice.PartMut.{put_mid}
 use Rattle.run.specs.Run.{Run, Verdict}
 use Rattle.run.specs.Records.{run_width, verdict_width}
-use Rattle.run.specs.Layout.{most_verdicts, most_running, benches_at, depth_at, landed_count, waiting_count, rejected_count, verdicts_count, running_count, requested_at, landed_at, verdicts_at, running_at, queue_length}
+use Rattle.run.specs.Layout.{most_verdicts, most_running, benches_at, depth_at, landed_count, waiting_count, rejected_count, verdicts_count, running_count, requested_at, verdicts_at, running_at, queue_length}
 use Rattle.run.specs.State.{Config, Queue}
 use Rattle.run.specs.Numbers.{Sections, sections, whole, config_in, landed_in, waiting_in, rejected_in, with_changes, encode, decode, Settled, Fits}
 use Rattle.run.proofs.Sections.{Sized, sized_sections, whole-sections, sections-whole, counters_as, verdicts_as, put_verdicts, put_running, counters_are}

@@ -7,7 +7,7 @@ use Rattle.std.proofs.lemmas.List.{drop_at, take-append-drop, drop-drop, get_or-
 use Rattle.queue.specs.declared.reply.Refusal.{Refusal}
 use Rattle.queue.specs.declared.reply.Refusal.TheVariants.{Malformed}
 use Rattle.run.proofs.Round.{decode_encode, sized_of}
-use Rattle.run.proofs.Sections.{Sized, long-whole, sections-whole}
+use Rattle.run.proofs.Sections.{long-whole, sections-whole}
 use Rattle.change.proofs.ChangeLaws.{length-change_row}
 use Rattle.run.proofs.Rows.{length-run_row, length-verdict_row}
 use Rattle.change.specs.Change.{most_parts, Change, line}
@@ -17,7 +17,7 @@ use Rattle.run.specs.Run.{Run, Verdict}
 use Rattle.run.specs.Records.{run_width, verdict_width, run_row, verdict_row, Ahead, AheadVerdict}
 use Rattle.run.specs.Layout.{most_landed, most_waiting, most_rejected, most_verdicts, most_running, landed_count, waiting_count, rejected_count, verdicts_count, running_count, requested_at, landed_at, waiting_at, rejected_at, verdicts_at, running_at, queue_length}
 use Rattle.run.specs.State.{Config, Queue}
-use Rattle.run.specs.Numbers.{Sections, sections, whole, config_in, landed_in, decode, changes_section, sections_of, encode, Small, Fits}
+use Rattle.run.specs.Numbers.{Sections, sections, config_in, landed_in, decode, changes_section, sections_of, encode, Small, Fits}
 use Rattle.queue.specs.Refusals.{Check, then, unless, count_check, counts_check, over, changes_check, following_check, records_check, sums_check, overlong, runs_check, queue_check}
 
 -- CHECKS. One that does not refuse is passed.
