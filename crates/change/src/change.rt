@@ -5,6 +5,7 @@ ghost use Rattle.change.specs.Change.{most_parts};
 // A change touches at most so many parts.
 pub const MOST_PARTS: usize = 8;
 
+// The user asked for a change by value with an array of eight parts; so many of them count.
 #[derive(Clone, Copy)]
 pub struct Change {
     pub number: u64,

@@ -23,6 +23,7 @@ pub fn pass(queue: &mut [u64], tally: &mut [u64; PARTS])
     let waiting = queue[WAITING_COUNT] as usize;
     let verdicts = queue[VERDICTS_COUNT] as usize;
     let mut decided = 0usize;
+    // The user asked for these loops, left by a label. The innermost looks for a verdict as `Run::known` does, which takes no label.
     // The turns are counted, as a turn may take its change out from among those that wait.
     'changes: for turn in 0..waiting {
         // Until the change is decided, the queue is only read.

@@ -31,7 +31,7 @@ pub fn read_run(row: &[u64]) -> Run
     }
 }
 
-// Whether a verdict's record says good.
+// Whether a verdict's record says good; a record is numbers, and 1 is good.
 pub fn says_good(row: &[u64]) -> bool
     requires { verdict_width ≤ length row.now }
     ensures { result ≡ (slice_index row.now run_width == 1) }

@@ -5,6 +5,7 @@ ghost use Rattle.run.specs.Limits.{most_following};
 // A run goes on with at most so many changes behind the landed ones.
 pub const MOST_FOLLOWING: usize = 16;
 
+// By value with an array as well: deciding and planning take no memory.
 #[derive(Clone, Copy)]
 pub struct Run {
     pub part: u64,
