@@ -15,7 +15,7 @@ use super::counts::Counts;
 use super::held::Held;
 use super::kind::Kind;
 use super::reply::Refusal;
-use change::{CHANGE_WIDTH, Change, Changes, MOST_PARTS, PARTS};
+use change::{CHANGE_WIDTH, Change, Changes, MOST_PARTS, PARTS, records_at};
 use run::*;
 
 // The slice is long enough for a queue.
@@ -80,7 +80,7 @@ fn check_field(
     ensures says { check_of result ≡ option_map Malformed (over width field most n base queue.now) }
     ensures hands { Hands result (λ m. m ≡ n) }
 {
-    match (0..n).find(|i| queue[base + width * *i + field] > most as u64) {
+    match records_at(queue, base, width, n).position(|row| row[field] > most as u64) {
         Some(i) => Err(Refusal::Malformed((base + width * i + field) as u64)),
         None => Ok(n),
     }
@@ -101,11 +101,8 @@ fn check_begins(
     ensures says { check_of result ≡ option_map Malformed (overlong (changes_of landed.entry) width n base queue.now) }
     ensures hands { Hands result (λ m. m ≡ n) }
 {
-    let overlong = (0..n).find(|i| {
-        let at = base + width * *i;
-        queue[at + 1] > landed.count_of(tally, queue[at])
-    });
-    match overlong {
+    let mut runs = records_at(queue, base, width, n);
+    match runs.position(|run| run[1] > landed.count_of(tally, run[0])) {
         Some(i) => Err(Refusal::Malformed((base + width * i) as u64)),
         None => Ok(n),
     }
