@@ -2,11 +2,11 @@
 ghost use Rattle.std.specs.Prelude.{◌≡◌, ◌+◌, ◌*◌, ◌<◌, ◌≤◌, ◌&&◌, length, drop, nat_le, Some, slice_index};
 ghost use Rattle.change.specs.Change.{place_of};
 ghost use Rattle.change.specs.Listed.{changes_of};
-ghost use Rattle.change.specs.Records.{Tallies, change_in, change_of, change_width, changes_in};
+ghost use Rattle.change.specs.Records.{Tallies, change_in, change_of};
 ghost use Rattle.std.specs.Option.{option_map};
 ghost use Rattle.queue.specs.Queue.{used};
-ghost use Rattle.queue.specs.Stages.{Counted, Roomy, kind_number};
-ghost use Rattle.run.specs.Layout.{event_length, landed_at, most_landed, most_rejected, most_verdicts, number_limit, queue_length, requested_at};
+ghost use Rattle.queue.specs.Stages.{Roomy, kind_number};
+ghost use Rattle.run.specs.Layout.{event_length, most_landed, most_rejected, most_verdicts, number_limit, queue_length, requested_at};
 ghost use Rattle.run.specs.Numbers.{RunsFit, landed_in, rejected_in, waiting_in};
 ghost use Rattle.queue.specs.Refusals.{Hands, benches_check, check_of, count_check, counts_check, depth_check, event_check, length_check, number_check, over, overlong, parts_check, unless, records_check, requests_check, room_check, runs_check, sums_check, verdicts_check, waits_check, place_check, report_kind};
 ghost use Rattle.queue.specs.declared.reply.Refusal.TheVariants.{Malformed};
