@@ -1,4 +1,5 @@
 pub mod Searches
+pub mod Found
 pub mod Recorded
 pub mod Reported
 pub mod Advanced

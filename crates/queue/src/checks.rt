@@ -2,11 +2,11 @@
 ghost use Rattle.std.specs.Prelude.{◌≡◌, ◌+◌, ◌*◌, ◌<◌, ◌≤◌, ◌&&◌, length, drop, nat_le, Some, slice_index};
 ghost use Rattle.change.specs.Change.{place_of};
 ghost use Rattle.change.specs.Listed.{changes_of};
-ghost use Rattle.change.specs.Records.{Tallies, change_in, change_of, change_width, changes_in};
+ghost use Rattle.change.specs.Records.{Tallies, change_in, change_of};
 ghost use Rattle.std.specs.Option.{option_map};
 ghost use Rattle.queue.specs.Queue.{used};
-ghost use Rattle.queue.specs.Stages.{Counted, Roomy, kind_number};
-ghost use Rattle.run.specs.Layout.{event_length, landed_at, most_landed, most_rejected, most_verdicts, number_limit, queue_length, requested_at};
+ghost use Rattle.queue.specs.Stages.{Roomy, kind_number};
+ghost use Rattle.run.specs.Layout.{event_length, most_landed, most_rejected, most_verdicts, number_limit, queue_length, requested_at};
 ghost use Rattle.run.specs.Numbers.{RunsFit, landed_in, rejected_in, waiting_in};
 ghost use Rattle.queue.specs.Refusals.{Hands, benches_check, check_of, count_check, counts_check, depth_check, event_check, length_check, number_check, over, overlong, parts_check, unless, records_check, requests_check, room_check, runs_check, sums_check, verdicts_check, waits_check, place_check, report_kind};
 ghost use Rattle.queue.specs.declared.reply.Refusal.TheVariants.{Malformed};
@@ -15,7 +15,7 @@ use super::counts::Counts;
 use super::held::Held;
 use super::kind::Kind;
 use super::reply::Refusal;
-use change::{CHANGE_WIDTH, Change, Changes, MOST_PARTS, PARTS};
+use change::{CHANGE_WIDTH, Change, Changes, MOST_PARTS, PARTS, records_at};
 use run::*;
 
 // The slice is long enough for a queue.
@@ -80,7 +80,7 @@ fn check_field(
     ensures says { check_of result ≡ option_map Malformed (over width field most n base queue.now) }
     ensures hands { Hands result (λ m. m ≡ n) }
 {
-    match (0..n).find(|i| queue[base + width * *i + field] > most as u64) {
+    match records_at(queue, base, width, n).position(|row| row[field] > most as u64) {
         Some(i) => Err(Refusal::Malformed((base + width * i + field) as u64)),
         None => Ok(n),
     }
@@ -101,11 +101,8 @@ fn check_begins(
     ensures says { check_of result ≡ option_map Malformed (overlong (changes_of landed.entry) width n base queue.now) }
     ensures hands { Hands result (λ m. m ≡ n) }
 {
-    let overlong = (0..n).find(|i| {
-        let at = base + width * *i;
-        queue[at + 1] > landed.count_of(tally, queue[at])
-    });
-    match overlong {
+    let mut runs = records_at(queue, base, width, n);
+    match runs.position(|run| run[1] > landed.count_of(tally, run[0])) {
         Some(i) => Err(Refusal::Malformed((base + width * i) as u64)),
         None => Ok(n),
     }

@@ -1,5 +1,5 @@
 // Serial testing over any bench: what lands and what is rejected, one change at a time.
-ghost use Rattle.std.specs.Prelude.{◌≡◌, [], ◌∷◌, ◌++◌, map, IfOk};
+ghost use Rattle.std.specs.Prelude.{◌≡◌, [], map, IfOk};
 ghost use Rattle.change.specs.Change.{line};
 ghost use Rattle.change.specs.Records.{change_of};
 ghost use Rattle.serial.specs.Serial.{passes as passes_over, serial_landed, serial_rejected};
