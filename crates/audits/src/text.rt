@@ -49,7 +49,7 @@ impl fmt::Display for Landed {
     fn fmt<W: fmt::Write>(&self, f: &mut fmt::Formatter<W>) -> fmt::Result {
         let c = self.0;
         let number = c.number;
-        let parts = Parts(&c.parts[0..c.count as usize]);
+        let parts = Parts(c.touched());
         write!(f, "{number}{parts}")
     }
 }
