@@ -83,6 +83,7 @@ pub fn read_landed(heap: Global, line: &str) -> Result<Change, Unread>
 }
 
 // The change of this number with the parts that stand behind it in the line.
+// They are counted first and not collected: a change is an array and a count, with no heap.
 fn with_parts(number: u64, line: &str) -> Result<Change, Unread> {
     let words = || line.split_ascii_whitespace().skip(1);
     let count = words().count();
