@@ -65,6 +65,7 @@ impl From<AllocError> for Problem {
     }
 }
 
+// It answers a status: the runtime would print an error in another form.
 fn main(rt: HostRuntime) -> ExitCode {
     match run(&rt) {
         Ok(code) => code,
@@ -89,7 +90,8 @@ fn run(rt: &HostRuntime) -> Result<ExitCode, Problem> {
     audit_files(rt, results, main_line)
 }
 
-// Audits, and prints what was found.
+// Audits, and prints what was found. The texts are read alike, but not by one function that is handed the reading:
+// another crate's function cannot be handed on by name, and a closure for each is longer.
 fn audit_files(rt: &HostRuntime, results: String, main_line: String) -> Result<ExitCode, Problem> {
     let text = read_text(rt, results)?;
     let verdicts = audits::read_log(rt.alloc(), text.as_str()).map_err(|unread| Problem::Text {

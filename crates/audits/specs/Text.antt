@@ -1,17 +1,16 @@
 -- The text of the lines of a log and of a main line, and of what an audit finds. Assumes nothing: these are definitions.
-use Rattle.std.specs.Prelude.{◌≡◌, ℕ, false, cond, List, [], ◌∷◌, ◌++◌, length, codes, decimal}
+use Rattle.std.specs.Prelude.{◌≡◌, ℕ, cond, List, [], ◌∷◌, ◌++◌, length, codes, decimal}
 use Rattle.std.specs.Str.Lines.{IsFirstLine}
 use Rattle.change.specs.Change.{Change}
 use Rattle.run.specs.Run.{Verdict}
-use Rattle.run.specs.Text.{changes_text, run_text}
+use Rattle.run.specs.Text.{run_text}
 use Rattle.audits.specs.Audit.{Fault}
 use Rattle.audits.specs.declared.fault.Why.{Why}
 use Rattle.audits.specs.declared.fault.Why.TheVariants.{NeverRun, WasBad}
 
 -- a line of the log: a run, a blank, and good or bad
 abbrev pub verdict_text : Verdict → List ℕ
-verdict_text v =
-    decimal v.run.part ++ (codes ":" ++ (changes_text false v.run.changes ++ cond v.good (codes " good") (codes " bad")))
+verdict_text v = run_text v.run ++ cond v.good (codes " good") (codes " bad")
 
 -- parts, each behind a blank
 abbrev pub parts_text : List ℕ → List ℕ

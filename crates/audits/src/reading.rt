@@ -25,7 +25,7 @@ fn number_below(text: &str, limit: u64) -> Option<u64>
 // The changes of a run: numbers parted by a plus.
 fn read_changes(heap: Global, text: &str) -> Result<Vec<u64>, Unread> {
     text.split('+')
-        .map(|piece| number_below(piece, NUMBER_LIMIT).ok_or(Unread::Line(Malformed::Number)))
+        .map(|piece| number_below(piece, NUMBER_LIMIT).ok_or(Malformed::Number.into()))
         .try_collect(heap)
 }
 
@@ -38,7 +38,7 @@ pub fn read_verdict(heap: Global, line: &str) -> Result<Verdict, Unread>
     if text.as_str() == line {
         Ok(v)
     } else {
-        Err(Unread::Line(Malformed::Zeros))
+        Err(Malformed::Zeros.into())
     }
 }
 
@@ -48,7 +48,7 @@ fn take_apart(heap: Global, line: &str) -> Result<Verdict, Unread> {
     let good = match word {
         "good" => true,
         "bad" => false,
-        _ => return Err(Unread::Line(Malformed::Verdict)),
+        _ => return Err(Malformed::Verdict.into()),
     };
     let (part, changes) = run.split_once(':').ok_or(Malformed::Part)?;
     let part = number_below(part, PART_LIMIT).ok_or(Malformed::Part)?;
@@ -71,23 +71,24 @@ pub fn read_landed(heap: Global, line: &str) -> Result<Change, Unread>
     let number = number_below(first, NUMBER_LIMIT).ok_or(Malformed::Number)?;
     let c = with_parts(number, line)?;
     if c.first_fault().is_some() {
-        return Err(Unread::Line(Malformed::Parts));
+        return Err(Malformed::Parts.into());
     }
     let landed = Landed(c);
     let text = format!(in heap; "{landed}")?;
     if text.as_str() == line {
         Ok(c)
     } else {
-        Err(Unread::Line(Malformed::Blanks))
+        Err(Malformed::Blanks.into())
     }
 }
 
 // The change of this number with the parts that stand behind it in the line.
+// They are counted first and not collected: a change is an array and a count, with no heap.
 fn with_parts(number: u64, line: &str) -> Result<Change, Unread> {
     let words = || line.split_ascii_whitespace().skip(1);
     let count = words().count();
     if count > MOST_PARTS {
-        return Err(Unread::Line(Malformed::Parts));
+        return Err(Malformed::Parts.into());
     }
     let mut parts = [0u64; MOST_PARTS];
     for (part, word) in parts.iter_mut().zip(words()) {

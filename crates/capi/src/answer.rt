@@ -1,4 +1,4 @@
-// What a call answers, in two numbers.
+// What a call answers, in two numbers: an enum that holds values does not cross to C.
 ghost use Rattle.capi.specs.Answers.{Says};
 
 use queue::Reply;

@@ -24,7 +24,7 @@ pub extern "C" fn giltzomer_apply(queue: &mut [u64], event: &[u64]) -> Answer
 }
 
 // Reads the first event of a day file, behind its config, into the first numbers of `event`; says how many bytes it takes.
-// Says 0, and leaves `event` as it was, if there is none or `event` is too short for one.
+// Says 0, and leaves `event` as it was, if there is none or `event` is too short for one: an `Option` does not cross to C.
 #[unsafe(no_mangle)]
 pub extern "C" fn giltzomer_next_event(bytes: &[u8], event: &mut [u64]) -> usize
     ensures { (result, event.new) ≡ event_read (next_event bytes.now) event.old }

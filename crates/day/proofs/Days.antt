@@ -2,7 +2,7 @@
 use Rattle.std.proofs.Common.{◌≡◌, ℕ, true, List, [], ◌∷◌, ◌++◌, Some, None, codes, sym, refl, ap, ◌∙◌, true≢false, Ok, Err}
 use Rattle.std.specs.declared.fmt.Formatter.{Formatter}
 use Rattle.std.specs.Fmt.{IsPlainFormatter, HasWritten}
-use Rattle.run.proofs.Writing.{Sofar, sofar_none, sofar_more, sofar_all}
+use Rattle.run.proofs.Writing.{Sofar, sofar_more, sofar_all}
 use Rattle.queue.specs.Entry.{Reply}
 use Rattle.queue.specs.Refusals.{refusal_text}
 use Rattle.queue.specs.declared.reply.Refusal.{Refusal}
@@ -32,9 +32,6 @@ module _ {W : Type 0} (took : W → List ℕ → W → Type 0) (f : Formatter W)
   pub underway_end : (xs : List ℕ) (es : List (List ℕ)) (g : Formatter W) → Underway xs es g → es ≡ [] → xs ≡ last
   unfolding ends
   underway_end xs es g u e = sym (ap (ends most xs) e) ∙ u.end
-
-pub underway_none : {W : Type 0} (took : W → List ℕ → W → Type 0) (f : Formatter W) (most : ℕ) (xs : List ℕ) (es : List (List ℕ)) → Underway took f most (lines most xs es) (ends most xs es) xs es f
-underway_none took f most xs es = record { text = sofar_none took f _ _ refl; end = refl }
 
 -- a file without a config, and one with a config that opens the queue or is refused
 pub text_none : (most : ℕ) (bs : List ℕ) → config_read bs ≡ None → day_text most bs ≡ []

@@ -104,7 +104,7 @@ fn read_report(bytes: &[u8]) -> Option<(usize, [u64; EVENT_LENGTH])>
     Some((REPORT_BYTES, event_of(Kind::Report, place, value)))
 }
 
-// The numbers of an event of this kind, 0 behind these.
+// The numbers of an event of this kind, 0 behind these. Not a struct: the queue takes an event as a row of numbers.
 fn event_of(kind: Kind, number: u64, value: u64) -> [u64; EVENT_LENGTH]
     ensures { result ≡ kind_number kind ∷ number ∷ value ∷ replicate most_parts 0 }
 {
@@ -123,7 +123,7 @@ fn number_read(bytes: &[u8]) -> u64
     u64::from(u32::from_le_bytes([bytes[1], bytes[2], bytes[3], bytes[4]]))
 }
 
-// As many parts as a change can have, 0 where there are no more.
+// As many parts as a change can have, 0 where there are no more. Not `change::padded`: each byte is widened.
 fn padded(parts: &[u8]) -> [u64; MOST_PARTS]
     ensures { result ≡ fixed most_parts parts.now }
 {

@@ -43,6 +43,7 @@ impl fmt::Display for StateLine<'_> {
 }
 
 // So many records of a width, in numbers that begin with the first.
+// Not `as_chunks`: any slice can be printed, and the count may be larger than what is there.
 #[derive(Clone, Copy)]
 struct Section<'a, const WIDTH: usize> {
     count: u64,
@@ -96,7 +97,7 @@ impl fmt::Display for Changes<'_> {
     }
 }
 
-// Whether the change that a record says touches the part.
+// Whether the change that a record says touches the part. Not `Change::touches`: the record may be cut short.
 fn touches(row: &[u64], part: u64) -> bool
     ensures { result ≡ has (change_in row.now).parts part }
 {

@@ -91,6 +91,7 @@ impl Scale<'_> {
     }
 }
 
+// `as_nanos` counts in 128 bits; a span that does not fit in 64 is never measured.
 fn nanos(d: Duration) -> u64 {
     u64::try_from(d.as_nanos()).unwrap_or(u64::MAX)
 }

@@ -16,7 +16,7 @@ use serial::{decide_serially, line_of};
 use std::alloc::{AllocError, Global};
 use std::fmt;
 
-#[derive(Clone, Copy, PartialEq, Eq)]
+#[derive(Clone, Copy)]
 pub enum Difference {
     // A change waits, and no run is running.
     Idle,
@@ -95,7 +95,7 @@ fn all_booked(state: State) -> bool {
 }
 
 // The run of the part with all that has landed, the first n that wait, and then the change of this number.
-// Put together here anew, and not by the queue's own function for it, so that a fault in that is seen.
+// Put together here anew, and not by the queue's own function for it: a check must not use what it checks.
 fn useful_run(state: State, n: usize, part: u64, number: u64) -> Run
     requires { n < most_following }
     ensures { result.begins ≡ length (line result.part (landed_held state.entry.queue.now)) }
@@ -119,10 +119,9 @@ fn is_booked(state: State, run: Run) -> bool
     if state.running().contains(&row) {
         return true;
     }
-    let queue = state.queue;
-    let landed = queue[LANDED_COUNT].min(MOST_LANDED as u64) as usize;
-    let verdicts = queue[VERDICTS_COUNT].min(MOST_VERDICTS as u64) as usize;
-    run.known(queue, landed, verdicts) != Known::Nothing
+    let landed = state.count(LANDED_COUNT, MOST_LANDED);
+    let verdicts = state.count(VERDICTS_COUNT, MOST_VERDICTS);
+    run.known(state.queue, landed, verdicts) != Known::Nothing
 }
 
 // Whether the run is its part's whole landed line, and then the first of those that wait and touch the part,

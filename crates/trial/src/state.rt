@@ -23,14 +23,21 @@ pub struct State<'a> {
 }
 
 impl<'a> State<'a> {
+    // The count at this index, and at most so many.
+    pub fn count(self, at: usize, most: usize) -> usize
+        requires { at < queue_length }
+        ensures { result ≡ min (slice_index self.entry.queue.now at) most }
+    {
+        self.queue[at].min(most as u64) as usize
+    }
+
     // The changes of the section that begins at `at`: as many as its count says, and at most so many.
     fn section(self, count: usize, at: usize, most: usize) -> Changes<'a>
         requires counted { count < queue_length }
         requires within { at + change_width * most ≤ queue_length }
         ensures { listed result ≡ held count at most self.entry.queue.now }
     {
-        let n = self.queue[count].min(most as u64) as usize;
-        Changes::at(self.queue, at, n)
+        Changes::at(self.queue, at, self.count(count, most))
     }
 
     pub fn landed(self) -> Changes<'a>
@@ -65,9 +72,8 @@ impl<'a> State<'a> {
     pub fn running(self) -> &'a [[u64; RUN_WIDTH]]
         ensures { length result.now ≡ min (slice_index self.entry.queue.now running_count) most_running }
     {
-        let count = self.queue[RUNNING_COUNT].min(MOST_RUNNING as u64) as usize;
         let (rows, _) = self.queue[RUNNING_AT..QUEUE_LENGTH].as_chunks();
-        &rows[..count]
+        &rows[..self.count(RUNNING_COUNT, MOST_RUNNING)]
     }
 }
 

@@ -13,10 +13,11 @@ struct Case(usize, [(usize, u64); 2], [u64; 11], (u64, u64));
 
 const WHOLE: usize = QUEUE_LENGTH;
 
-// An index past the queue, where nothing is written.
+// An index past the queue, where nothing is written. Not an `Option`: the table of cases would be longer.
 const SOUND: (usize, u64) = (QUEUE_LENGTH, 0);
 
 // A submission of change 9 to parts 1 and 2, and others with something wrong.
+// Events and refusals are numbers here, as they are lent and as C is answered.
 const GOOD: [u64; 11] = [0, 9, 2, 1, 2, 0, 0, 0, 0, 0, 0];
 
 const USED_LANDED: [u64; 11] = [0, 1, 2, 1, 2, 0, 0, 0, 0, 0, 0];

@@ -85,7 +85,8 @@ impl Day {
         let landed = u128::from(number_at(queue, LANDED_COUNT));
         let waiting = u128::from(number_at(queue, WAITING_COUNT));
         let rejected = u128::from(number_at(queue, REJECTED_COUNT));
-        kind == u64::from(Kind::Submit) && u128::from(self.most) <= landed + waiting + rejected
+        Kind::try_from(kind) == Ok(Kind::Submit)
+            && u128::from(self.most) <= landed + waiting + rejected
     }
 
     // What a full day answers to a submission. A copy is asked, since the queue itself must not take the event.
