@@ -11,7 +11,7 @@ mod tally;
 pub use change::{Change, MOST_PARTS};
 pub use changes::Changes;
 pub use methods::PART_LIMIT;
-pub use record::{Record, append, remove};
+pub use record::{Record, append, remove, remove_record};
 pub use records::{
     CHANGE_WIDTH, change_at, change_round_trip, padded, read_change, records_at, tidy_changes,
 };

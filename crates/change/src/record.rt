@@ -34,7 +34,15 @@ pub fn remove<R: Record>(section: &mut [u64], n: usize, i: usize)
     requires within { R.WIDTH * n ≤ length section.old }
     ensures { section.new ≡ row_out R.WIDTH n i section.old }
 {
-    let width = R::WIDTH;
+    remove_record(section, R::WIDTH, n, i);
+}
+
+// The same of records of this width, whatever they say.
+pub fn remove_record(section: &mut [u64], width: usize, n: usize, i: usize)
+    requires there { i < n }
+    requires within { width * n ≤ length section.old }
+    ensures { section.new ≡ row_out width n i section.old }
+{
     let end = width * n;
     section[width * i..end].rotate_left(width);
     section[end - width..end].fill(0);
