@@ -1,14 +1,24 @@
 -- Laws of changes, of the records that hold them, and of searches and counts through a section.
-use Rattle.std.proofs.Common.{◌≡◌, ℕ, suc, ◌+◌, ◌-◌, ◌≤◌, min, Bool, true, false, cond, ◌||◌, eqb, List, [], ◌∷◌, ◌++◌, length, get_or, take, drop, set, is_some, Some, None, Option, sym, refl, ap, ◌∙◌, ⊎_elim, add-zero, arith}
+use Rattle.std.proofs.Common.{◌≡◌, ℕ, suc, ◌+◌, ◌-◌, ◌<◌, ◌≤◌, min, Bool, true, false, cond, ◌||◌, eqb, List, [], ◌∷◌, ◌++◌, length, get_or, take, drop, set, is_some, Some, None, Option, sym, refl, ap, ◌∙◌, ⊎_elim, add-zero, arith, length-take}
 use borrow.Rule.Slice.PartMut.{put_mid}
 use Rattle.std.specs.List.{list_any, position, position_from, filter}
 use Rattle.std.specs.Option.{option_map}
-use Rattle.std.proofs.lemmas.List.{get_or-take, append-nil, drop_all, drop-take, take-take, take-append-le}
+use Rattle.std.proofs.lemmas.List.{at_drop_more, at_drop_all, length-take-le, get_or-take, append-nil, drop_all, drop-take, take-take, take-append-le}
 use Rattle.std.proofs.lemmas.Iterator.Adapters.{position_from-zero}
 use Rattle.std.proofs.lemmas.Bool.{cond_both, cases_Bool}
 use Rattle.change.specs.Change.{Change, has, share, line, numbered, place_of}
 use Rattle.change.specs.Records.{change_in, change_row, fixed}
 use Rattle.change.proofs.Rows.{length-fixed, take-fixed, Local}
+
+-- one step of a search through the first n of xs
+pub has_more : (xs : List ℕ) (n i p : ℕ) → i < n → n ≤ length xs → has (drop i (take n xs)) p ≡ (eqb (get_or xs i 0) p || has (drop (i + 1) (take n xs)) p)
+has_more xs n i p lt le =
+    let h : i < length (take n xs) = omega (arith, length-take-le n xs le) in
+    let e : has (drop i (take n xs)) p ≡ (eqb (get_or (take n xs) i 0) p || has (drop (i + 1) (take n xs)) p) = at_drop_more (λ ys. has ys p) (take n xs) i 0 h in
+    rw get_or-take at e
+
+pub has_none : (xs : List ℕ) (n i p : ℕ) → n ≤ i → has (drop i (take n xs)) p ≡ false
+has_none xs n i p le = at_drop_all (λ ys. has ys p) (take n xs) i (omega (arith, length-take n xs))
 
 -- a row whose first two places are set and whose others are written over
 pub row_written : (xs ys : List ℕ) (a b : ℕ) → length xs ≡ 10 → put_mid 2 8 (set (set xs 0 a) 1 b) ys ≡ a ∷ b ∷ ys

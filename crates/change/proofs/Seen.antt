@@ -56,6 +56,13 @@ module _ (ps : List ℕ) (i q : ℕ) (lt : i < length ps) (is : q ≡ get_or ps 
       (λ ne. get_or-set_other cs q p (get_or cs q 0 + 1) 0 (λ e. ne (sym e)) ∙ (h ∙ ap (λ u. get_or es p 0 + cond u 1 0) (sym (seen_other p ne))))
       (cases_eq q p)
 
+  pub stamp_step : (ss es : List ℕ) (stamp p : ℕ) → q < length ss → get_or ss p 0 ≡ cond (has (take i ps) p) stamp (get_or es p 0) →
+      get_or (set ss q stamp) p 0 ≡ cond (has (take (i + 1) ps) p) stamp (get_or es p 0)
+  stamp_step ss es stamp p lq h = ⊎_elim
+      (λ e. ap (λ u. get_or (set ss q stamp) u 0) (sym e) ∙ (get_or-set_same ss q stamp 0 lq ∙ ap (λ u. cond u stamp (get_or es p 0)) (sym (seen_new p e))))
+      (λ ne. get_or-set_other ss q p stamp 0 (λ e. ne (sym e)) ∙ (h ∙ ap (λ u. cond u stamp (get_or es p 0)) (sym (seen_other p ne))))
+      (cases_eq q p)
+
   -- the fault of the parts from the i-th on, where the i-th is sound, where it is not
   fault_sound : (ltb q part_limit && not (has (take i ps) q)) ≡ true → fault_from (take i ps) i (drop i ps) ≡ fault_from (take (i + 1) ps) (i + 1) (drop (i + 1) ps)
   fault_sound e =

@@ -39,10 +39,12 @@ impl<const N: usize> Kept<N> {
     pub fn has(&self, width: usize, row: &[u64]) -> bool
         requires within { width * self.now.count ≤ N }
         requires wide { run_width ≤ width }
+        requires row { length row.now ≡ run_width }
         ensures { result ≡ has_row row.now (run_rows width self.now.count self.now.numbers) }
     {
         for record in records_at(&self.numbers, 0, width, self.count) {
-            if row == &record[..RUN_WIDTH] {
+            // Most are of other parts; these need not be compared.
+            if record[0] == row[0] && row == &record[..RUN_WIDTH] {
                 return true;
             }
         }

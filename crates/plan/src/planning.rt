@@ -19,8 +19,10 @@ pub fn plan_runs(queue: &mut [u64], tally: &[u64; PARTS])
     ensures running { slice_index queue.new running_count ≡ length (planned_in queue.old).running }
 {
     let planner = Planner { queue, tally };
-    let known = planner.keep_verdicts();
-    let mut running = planner.keep_running();
+    let mut known = KeptVerdicts::none();
+    planner.keep_verdicts(&mut known);
+    let mut running = KeptRuns::none();
+    planner.keep_running(&mut running);
     let still = running.count;
     planner.request_useful(&known, &mut running);
     let requested = queue[REQUESTED_AT] + (running.count - still) as u64;

@@ -68,10 +68,10 @@ impl Run {
     }
 
     // Whether its first d numbers are the last d of the part's landed changes: looks at these from their end.
-    fn repeats_last(self, landed: Changes<'_>, part: u64, d: usize) -> bool
+    fn repeats_last(&self, landed: Changes<'_>, part: u64, d: usize) -> bool
         requires short { d ≤ most_following }
         requires there { d ≤ length (line part (changes_of landed)) }
-        ensures { result ≡ same_list (drop (length (line part (changes_of landed.entry)) - d) (line part (changes_of landed.entry))) (take d self.numbers) }
+        ensures { result ≡ same_list (drop (length (line part (changes_of landed.entry)) - d) (line part (changes_of landed.entry))) (take d self.now.numbers) }
     {
         let mut left = d;
         for c in landed.rev() {
@@ -93,6 +93,16 @@ impl Run {
         requires fits { self.begins ≤ length (line self.part (changes_of landed)) }
         requires all { top.begins ≡ length (line top.part (changes_of landed)) }
         ensures { result ≡ same_run (run_of (changes_of landed.entry) self) (run_of (changes_of landed.entry) top) }
+    {
+        self.is_same(&top, landed)
+    }
+
+    // The same, of runs that are lent: a copy of both takes longer than to compare them.
+    #[inline(always)]
+    pub fn is_same(&self, top: &Run, landed: Changes<'_>) -> bool
+        requires fits { self.now.begins ≤ length (line self.now.part (changes_of landed)) }
+        requires all { top.now.begins ≡ length (line top.now.part (changes_of landed)) }
+        ensures { result ≡ same_run (run_of (changes_of landed.entry) self.now) (run_of (changes_of landed.entry) top.now) }
     {
         if self.part != top.part {
             return false;

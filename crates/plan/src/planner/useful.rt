@@ -29,9 +29,9 @@ impl<'a> Planner<'a> {
     }
 
     // The useful run that the stored one is, if it is one: only a change with its last number can have it.
-    pub fn find_useful(self, stored: Run) -> Option<Run>
-        requires { stored.begins ≤ length (line stored.part (landed_in self.queue.now)) }
-        ensures { Found self.entry.queue.now (run_of (landed_in self.entry.queue.now) stored) result }
+    pub fn find_useful(self, stored: &Run) -> Option<Run>
+        requires { stored.now.begins ≤ length (line stored.now.part (landed_in self.queue.now)) }
+        ensures { Found self.entry.queue.now (run_of (landed_in self.entry.queue.now) stored.now) result }
     {
         let Some(last) = stored.following().last() else {
             return None;
@@ -39,7 +39,7 @@ impl<'a> Planner<'a> {
         for (i, c) in self.looked_at().enumerate() {
             if c.number == *last && c.touches(stored.part) {
                 let u = self.useful_run(i, stored.part, *last);
-                if stored.same_as(u, self.landed()) {
+                if stored.is_same(&u, self.landed()) {
                     return Some(u);
                 }
             }
@@ -48,6 +48,7 @@ impl<'a> Planner<'a> {
     }
 
     // The run of the part with all that has landed, the first n that wait, and then the change of this number.
+    #[inline(always)]
     pub fn useful_run(self, n: usize, part: u64, number: u64) -> Run
         requires { n < most_following }
         ensures part { result.part ≡ part }

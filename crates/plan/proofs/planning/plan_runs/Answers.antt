@@ -19,22 +19,22 @@ invariant_of-planner c = record { ready = c.requires.ready }
 pub request_useful-requires-clause-known : goal.request_useful-requires-clause-known
 request_useful-requires-clause-known c =
     let xs : List ℕ = c.args.queue.now in
-    let k = c.keep_verdicts-known.result in
-    holds_again (verdict_records (landed_in xs)) most_verdicts k.count k.numbers (still_known (useful_now xs) (verdicts_now xs)) c.keep_verdicts-known.ensures
+    let k = c.keep_verdicts.new.kept in
+    holds_again (verdict_records (landed_in xs)) most_verdicts k.count k.numbers (still_known (useful_now xs) (verdicts_now xs)) c.keep_verdicts.ensures
 
 pub request_useful-requires-clause-running : goal.request_useful-requires-clause-running
 request_useful-requires-clause-running c =
     let xs : List ℕ = c.args.queue.now in
-    let r = c.keep_running-running.result in
-    holds_again (run-records (landed_in xs)) most_running r.count r.numbers (still_running (useful_now xs) (running_now xs)) c.keep_running-running.ensures
+    let r = c.keep_running.new.kept in
+    holds_again (run-records (landed_in xs)) most_running r.count r.numbers (still_running (useful_now xs) (running_now xs)) c.keep_running.ensures
 
 pub overflow_sub-requested : goal.overflow_sub-requested
 overflow_sub-requested c =
     let xs : List ℕ = c.args.queue.now in
     let cs : List Change = landed_in xs in
-    let rs : List ℕ = c.keep_running-running.result.numbers in
-    let k : ℕ = c.keep_running-running.result.count in
-    let l = request_longer (get_or xs benches_at 0) (verdicts_in cs c.keep_verdicts-known.result.count c.keep_verdicts-known.result.numbers) (runs_in cs k rs) (useful_now xs) in
+    let rs : List ℕ = c.keep_running.new.kept.numbers in
+    let k : ℕ = c.keep_running.new.kept.count in
+    let l = request_longer (get_or xs benches_at 0) (verdicts_in cs c.keep_verdicts.new.kept.count c.keep_verdicts.new.kept.numbers) (runs_in cs k rs) (useful_now xs) in
     omega (arith, l, c.request_useful.ensures.count, length-rows (run_in cs) run_width k rs)
 
 pub returns : goal.returns
@@ -45,14 +45,14 @@ returns c =
     let vs : List Verdict = still_known us (verdicts_now xs) in
     let still : List Run = still_running us (running_now xs) in
     let b : ℕ = get_or xs benches_at 0 in
-    let v : ℕ = c.keep_verdicts-known.result.count in
-    let k : ℕ = c.keep_running-running.result.count in
+    let v : ℕ = c.keep_verdicts.new.kept.count in
+    let k : ℕ = c.keep_running.new.kept.count in
     let n : ℕ = c.request_useful.new.running.count in
-    let ys : List ℕ = c.keep_verdicts-known.result.numbers in
-    let rs : List ℕ = c.keep_running-running.result.numbers in
+    let ys : List ℕ = c.keep_verdicts.new.kept.numbers in
+    let rs : List ℕ = c.keep_running.new.kept.numbers in
     let zs : List ℕ = c.request_useful.new.running.numbers in
-    let hv : HoldsVerdicts cs v ys vs = c.keep_verdicts-known.ensures in
-    let hs : HoldsRuns cs k rs still = c.keep_running-running.ensures in
+    let hv : HoldsVerdicts cs v ys vs = c.keep_verdicts.ensures in
+    let hs : HoldsRuns cs k rs still = c.keep_running.ensures in
     let same : request b (verdicts_in cs v ys) (runs_in cs k rs) us ≡ request b vs still us =
     λ i. request b (holds_read (verdict_records cs) most_verdicts v ys vs hv i) (holds_read (run-records cs) most_running k rs still hs i) us in
     let hr : HoldsRuns cs n zs (request b vs still us) = subst (HoldsRuns cs n zs) same c.request_useful.ensures in

@@ -1,14 +1,15 @@
-use Rattle.std.proofs.Common.{◌≡◌, ℕ, ◌+◌, ◌*◌, ◌<◌, ◌≤◌, Bool, ◌||◌, eqb, List, [], ◌∷◌, ◌++◌, length, take, drop, sym, refl, ap, ◌∙◌, arith}
+use Rattle.std.proofs.Common.{◌≡◌, ℕ, ◌+◌, ◌*◌, ◌<◌, ◌≤◌, Bool, ◌||◌, eqb, List, [], ◌∷◌, ◌++◌, length, get_or, take, drop, sym, refl, ap, ◌∙◌, arith}
 use lib.Pointwise.{pointwise}
-use Rattle.std.proofs.lemmas.List.{length_push, take-take}
+use Rattle.std.proofs.lemmas.List.{length_push, get_or-take, take-take}
 use Rattle.std.specs.declared.slice.ChunksExact.{ChunksExact}
 use Rattle.change.proofs.Chunks.{Came, Left, chunk_inside, chunk_more, chunk_none, chunk_row}
 use Rattle.change.proofs.Rows.{rest, rest_all, rest_more}
 use Rattle.run.specs.Records.{run_width}
 use Rattle.run.specs.Run.{same_list}
-use Rattle.run.proofs.Compared.{pointwise-same_list}
+use Rattle.run.proofs.Compared.{pointwise-same_list, same_list_not}
 use Rattle.plan.specs.Rows.{has_row}
 use Rattle.plan.proofs.kept.Kept.has.Goals as goal
+use Rattle.plan.proofs.kept.Kept.has.Goals.{else-record-row-via-then-record-row+else-eq, else-record-row-via-else-record-row}
 
 module _ (row xs : List ℕ) (w n k : ℕ) (it next : ChunksExact ℕ) (v : List ℕ) (some : 0 < w) (wide : run_width ≤ w) (long : 0 + w * n ≤ length xs) (left : Left w n 0 xs it k) (came : Came it v next) where
   abbrev found : ℕ → Bool
@@ -22,6 +23,10 @@ module _ (row xs : List ℕ) (w n k : ℕ) (it next : ChunksExact ℕ) (v : List
 
   same : (b : Bool) → b ≡ pointwise eqb row (take run_width v) → found k ≡ (b || found (k + 1))
   same b e = one ∙ ap (λ u. u || found (k + 1)) (sym (pointwise-same_list row (take run_width v)) ∙ sym e)
+
+  -- it is of another part
+  other : (get_or v 0 0 ≡ get_or row 0 0 → ⊥) → found k ≡ found (k + 1)
+  other not_so = one ∙ ap (λ u. u || found (k + 1)) (same_list_not row (take run_width v) (λ e. not_so (sym (ap (λ l. get_or l 0 0) e ∙ get_or-take run_width v 0 0 (omega arith)))))
 
 pub returns-then-eq : goal.returns-then-eq
 returns-then-eq g c =
@@ -51,9 +56,13 @@ loop-record-preserved g c =
     let some : 0 < w = omega (arith, c.requires.wide) in
     let long : 0 + w * n ≤ length xs = omega (arith, c.requires.within, c.args.self.now.long) in
     let on : length (c.loop-record.yielded ++ c.in-Some.record ∷ []) ≡ k + 1 = length_push c.loop-record.yielded c.in-Some.record in
-    let e = same c.args.row.now xs w n k it next v some c.requires.wide long i.0 c.in-Some.ensures.steps c.eq.result c.eq.ensures in (
+    let later : ℕ → Bool = λ j. has_row c.args.row.now (rest (take run_width) w xs 0 n j) in
+    let on_to : later k ≡ later (k + 1) = elim c.else-record-row.branch [
+      | else-record-row-via-then-record-row+else-eq u ↦ same c.args.row.now xs w n k it next v some c.requires.wide long i.0 c.in-Some.ensures.steps u.eq.result u.eq.ensures ∙ ap (λ b. b || later (k + 1)) u.if-eq.false
+      | else-record-row-via-else-record-row u ↦ other c.args.row.now xs w n k it next v some c.requires.wide long i.0 c.in-Some.ensures.steps u.if-record-row.false
+    ] in (
       chunk_more w n 0 k xs some long it i.0 v next c.in-Some.ensures.steps c.loop-record.yielded c.in-Some.record refl,
-      ap (λ j. has_row c.args.row.now (rest (take run_width) w xs 0 n j)) on ∙ (sym (e ∙ ap (λ b. b || has_row c.args.row.now (rest (take run_width) w xs 0 n (k + 1))) c.if-eq.false) ∙ i.1),
+      ap later on ∙ (sym on_to ∙ i.1),
     )
 
 pub returns : goal.returns

@@ -22,7 +22,7 @@ pub returns-in_default : goal.returns-in_default
 returns-in_default c =
     let xs : List ℕ = c.args.self.queue.now in
     let cs : List Change = landed_in xs in
-    let r = c.args.stored in
+    let r = c.args.stored.now in
     let l = run_long cs r c.requires (omega (arith, r.few, r.long)) in
     let none = length-take r.follows r.numbers in
     short_useless (run_of cs r) (get_or xs depth_at 0) cs (waiting_in xs) (omega (arith, l, c.requires, c.in_default.ensures.item.3, ap length c.following.ensures, none, r.few, r.long))
@@ -39,8 +39,8 @@ loop-i-init c =
       (tt, tt, inl (look_counts xs made.count (changes_of made.iter) c.args.self.ready.depth all (omega (arith, k)))),
       tt,
       all,
-      ap (λ j. among (run_of cs c.args.stored) (useful (d - j) (cs ++ take j (waiting_in xs)) (drop j (waiting_in xs)))) k
-          ∙ (λ i. among (run_of cs c.args.stored) (useful (sub-zero d i) (append-nil cs i) (waiting_in xs))),
+      ap (λ j. among (run_of cs c.args.stored.now) (useful (d - j) (cs ++ take j (waiting_in xs)) (drop j (waiting_in xs)))) k
+          ∙ (λ i. among (run_of cs c.args.stored.now) (useful (sub-zero d i) (append-nil cs i) (waiting_in xs))),
     )
 
 -- the useful runs of those from here on, and whether the stored run is among them
@@ -79,8 +79,8 @@ useful_run-u-requires c =
     let s = c.in-Some-2.ensures.steps in
     omega (arith, s.1, c.args.self.ready.depth, look_inside xs c.loop-i.i-iterator.count (change_of c.in-Some-2.c) (changes_of c.loop-i.i-iterator.iter) (changes_of c.next.new.self.iter) c.loop-i.invariant.2 s.0)
 
-pub returns-then-same_as : goal.returns-then-same_as
-returns-then-same_as c =
+pub returns-then-is_same : goal.returns-then-is_same
+returns-then-is_same c =
     let xs : List ℕ = c.args.self.queue.now in
     let cs : List Change = landed_in xs in
     let u = c.useful_run-u.result in
@@ -88,18 +88,18 @@ returns-then-same_as c =
     let k : ℕ = c.loop-i.i-iterator.count in
     let i = c.loop-i.invariant in
     let s = c.in-Some-2.ensures.steps in
-    let same = own_run xs c.args.stored u c.in-Some-2.i k c.in-Some.last.now x (changes_of c.landed.result) true s.1 c.if-c-last.true c.landed.ensures c.useful_run-u.ensures.value (sym c.if-same_as.true ∙ c.same_as.ensures) in
-    let h = among_yes (run_of cs c.args.stored) (cs ++ first_waiting k xs) x.number x.parts (sym c.if-touches.ensures) same in
-    let t : same_run (run_of cs c.args.stored) (run_of cs u) ≡ true = ap (λ l. same_run (run_of l c.args.stored) (run_of l u)) (sym c.landed.ensures) ∙ (sym c.same_as.ensures ∙ c.if-same_as.true) in (
-      found xs c.args.stored k x (changes_of c.loop-i.i-iterator.iter) (changes_of c.next.new.self.iter) i.2 s.0 _ h i.3,
-      row_is cs u (c.useful_run-u.ensures.begins ∙ ap (λ p. length (line p cs)) (sym c.useful_run-u.ensures.part)) (omega (arith, u.few, u.long)) ∙ ap (run_row cs) (sym (same_run_true (run_of cs c.args.stored) (run_of cs u) t)),
+    let same = own_run xs c.args.stored.now u c.in-Some-2.i k c.in-Some.last.now x (changes_of c.landed.result) true s.1 c.if-c-last.true c.landed.ensures c.useful_run-u.ensures.value (sym c.if-is_same.true ∙ c.is_same.ensures) in
+    let h = among_yes (run_of cs c.args.stored.now) (cs ++ first_waiting k xs) x.number x.parts (sym c.if-touches.ensures) same in
+    let t : same_run (run_of cs c.args.stored.now) (run_of cs u) ≡ true = ap (λ l. same_run (run_of l c.args.stored.now) (run_of l u)) (sym c.landed.ensures) ∙ (sym c.is_same.ensures ∙ c.if-is_same.true) in (
+      found xs c.args.stored.now k x (changes_of c.loop-i.i-iterator.iter) (changes_of c.next.new.self.iter) i.2 s.0 _ h i.3,
+      row_is cs u (c.useful_run-u.ensures.begins ∙ ap (λ p. length (line p cs)) (sym c.useful_run-u.ensures.part)) (omega (arith, u.few, u.long)) ∙ ap (run_row cs) (sym (same_run_true (run_of cs c.args.stored.now) (run_of cs u) t)),
     )
 
 pub loop-i-preserved-then-touches : goal.loop-i-preserved-then-touches
 loop-i-preserved-then-touches c =
     let xs : List ℕ = c.args.self.queue.now in
     let cs : List Change = landed_in xs in
-    let r = c.args.stored in
+    let r = c.args.stored.now in
     let x : Change = change_of c.in-Some-2.c in
     let k : ℕ = c.loop-i.i-iterator.count in
     let i = c.loop-i.invariant in
@@ -107,7 +107,7 @@ loop-i-preserved-then-touches c =
     let left = changes_of c.loop-i.i-iterator.iter in
     let more = changes_of c.next.new.self.iter in
     let on = look_goes_on xs k x left more i.2 s.0 c.args.self.ready.depth c.next.new.self.count s.2 in
-    let other = own_run xs r c.useful_run-u.result c.in-Some-2.i k c.in-Some.last.now x (changes_of c.landed.result) false s.1 c.if-c-last.true c.landed.ensures c.useful_run-u.ensures.value (sym c.if-same_as.false ∙ c.same_as.ensures) in
+    let other = own_run xs r c.useful_run-u.result c.in-Some-2.i k c.in-Some.last.now x (changes_of c.landed.result) false s.1 c.if-c-last.true c.landed.ensures c.useful_run-u.ensures.value (sym c.if-is_same.false ∙ c.is_same.ensures) in
     let no_run = among_not (run_of cs r) (cs ++ first_waiting k xs) x.number x.parts other in
     ((tt, tt, inl on.1), tt, on.0, passed xs r k x left more i.2 s.0 _ c.next.new.self.count s.2 no_run i.3)
 
@@ -115,7 +115,7 @@ pub loop-i-preserved : goal.loop-i-preserved
 loop-i-preserved c =
     let xs : List ℕ = c.args.self.queue.now in
     let cs : List Change = landed_in xs in
-    let r = c.args.stored in
+    let r = c.args.stored.now in
     let x : Change = change_of c.in-Some-2.c in
     let k : ℕ = c.loop-i.i-iterator.count in
     let i = c.loop-i.invariant in
@@ -142,4 +142,4 @@ returns c =
     let k : ℕ = c.loop-i.i-iterator.count in
     let i = c.loop-i.invariant in
     let all = look_none xs k (sym i.2 ∙ c.in-None.ensures.steps.0.0) in
-    sym i.3 ∙ ap (among (run_of cs c.args.stored)) (useful-all d k (cs ++ take k ws) ws all)
+    sym i.3 ∙ ap (among (run_of cs c.args.stored.now)) (useful-all d k (cs ++ take k ws) ws all)

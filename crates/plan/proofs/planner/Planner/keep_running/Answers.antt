@@ -20,9 +20,9 @@ pub loop-row-init : goal.loop-row-init
 loop-row-init c =
     let rows = c.records_at-row-items.ensures in (
       left_all run_width (get_or c.args.self.queue.now running_count 0) running_at c.args.self.queue.now _ _ c.into_iter-row-iterator.ensures.into_iter_gives rows.size rows.rest,
-      c.none-kept.ensures.numbers ∙ sym (table_none (run_row (landed_in c.args.self.queue.now)) (run_width * most_running)),
-      c.none-kept.ensures.count,
-      omega (arith, c.none-kept.ensures.count),
+      c.requires.room ∙ sym (table_none (run_row (landed_in c.args.self.queue.now)) (run_width * most_running)),
+      c.requires.none,
+      omega (arith, c.requires.none),
       omega arith,
     )
 

@@ -29,9 +29,9 @@ pub loop-verdict-init : goal.loop-verdict-init
 loop-verdict-init c =
     let rows = c.records_at-verdict-items.ensures in (
       left_all verdict_width (get_or c.args.self.queue.now verdicts_count 0) verdicts_at c.args.self.queue.now _ _ c.into_iter-verdict-iterator.ensures.into_iter_gives rows.size rows.rest,
-      c.none-kept.ensures.numbers ∙ sym (table_none (verdict_row (landed_in c.args.self.queue.now)) (verdict_width * most_verdicts)),
-      c.none-kept.ensures.count,
-      omega (arith, c.none-kept.ensures.count),
+      c.requires.room ∙ sym (table_none (verdict_row (landed_in c.args.self.queue.now)) (verdict_width * most_verdicts)),
+      c.requires.none,
+      omega (arith, c.requires.none),
       omega arith,
     )
 

@@ -10,7 +10,7 @@ use Rattle.run.specs.Records.{run_of}
 use Rattle.run.specs.Run.{same_list}
 use Rattle.run.specs.declared.run.Run as declared
 use Rattle.run.proofs.Compared.{pointwise-same_list, run_long, other_changes, renewed, renewed_other}
-use Rattle.run.proofs.run.Run.same_as.Goals as goal
+use Rattle.run.proofs.run.Run.is_same.Goals as goal
 
 -- a run of the same part begins with no more than all
 no_more : (cs : List Change) (a u : declared.Run) → a.part ≡ u.part → a.begins ≤ length (line a.part cs) → u.begins ≡ length (line u.part cs) → a.begins ≤ u.begins
@@ -19,13 +19,13 @@ no_more cs a u part fits all = omega (arith, ap (λ p. length (line p cs)) part)
 pub overflow_add-d : goal.overflow_add-d
 overflow_add-d c =
     let cs : List Change = changes_of c.args.landed in
-    omega (arith, length-line_le c.args.top.part cs, length-rows change_in change_width c.args.landed.count c.args.landed.numbers.now, c.args.landed.within, c.ranges.landed.0, c.requires.all, c.args.top.few)
+    omega (arith, length-line_le c.args.top.now.part cs, length-rows change_in change_width c.args.landed.count c.args.landed.numbers.now, c.args.landed.within, c.ranges.landed.0, c.requires.all, c.args.top.now.few)
 
 pub returns-then-self-d : goal.returns-then-self-d
 returns-then-self-d c =
     let cs : List Change = changes_of c.args.landed in
-    let a : declared.Run = c.args.self in
-    let u : declared.Run = c.args.top in
+    let a : declared.Run = c.args.self.now in
+    let u : declared.Run = c.args.top.now in
     let l = run_long cs a c.requires.fits (omega (arith, a.few, a.long)) in
     let m = run_long cs u (omega (arith, c.requires.all)) (omega (arith, u.few, u.long)) in
     let fits = no_more cs a u c.if-self-top.false c.requires.fits c.requires.all in
@@ -42,13 +42,13 @@ compared cs a u F G d e f long =
 pub returns-then-eq : goal.returns-then-eq
 returns-then-eq c =
     let cs : List Change = changes_of c.args.landed in
-    let fits = no_more cs c.args.self c.args.top c.if-self-top.false c.requires.fits c.requires.all in
-    let same = compared cs c.args.self c.args.top _ _ (c.args.top.begins - c.args.self.begins) c.following.ensures c.following-2.ensures c.if-self-d.false in
-    renewed cs c.args.self c.args.top c.if-self-top.false c.requires.all fits c.if-self-d.false c.repeats_last.result c.repeats_last.ensures (sym same ∙ (sym c.eq.ensures ∙ c.if-eq.true))
+    let fits = no_more cs c.args.self.now c.args.top.now c.if-self-top.false c.requires.fits c.requires.all in
+    let same = compared cs c.args.self.now c.args.top.now _ _ (c.args.top.now.begins - c.args.self.now.begins) c.following.ensures c.following-2.ensures c.if-self-d.false in
+    renewed cs c.args.self.now c.args.top.now c.if-self-top.false c.requires.all fits c.if-self-d.false c.repeats_last.result c.repeats_last.ensures (sym same ∙ (sym c.eq.ensures ∙ c.if-eq.true))
 
 pub returns-else-eq : goal.returns-else-eq
 returns-else-eq c =
     let cs : List Change = changes_of c.args.landed in
-    let fits = no_more cs c.args.self c.args.top c.if-self-top.false c.requires.fits c.requires.all in
-    let same = compared cs c.args.self c.args.top _ _ (c.args.top.begins - c.args.self.begins) c.following.ensures c.following-2.ensures c.if-self-d.false in
-    c.if-eq.false ∙ renewed_other cs c.args.self c.args.top c.if-self-top.false c.requires.all fits c.if-self-d.false (sym same ∙ (sym c.eq.ensures ∙ c.if-eq.false))
+    let fits = no_more cs c.args.self.now c.args.top.now c.if-self-top.false c.requires.fits c.requires.all in
+    let same = compared cs c.args.self.now c.args.top.now _ _ (c.args.top.now.begins - c.args.self.now.begins) c.following.ensures c.following-2.ensures c.if-self-d.false in
+    c.if-eq.false ∙ renewed_other cs c.args.self.now c.args.top.now c.if-self-top.false c.requires.all fits c.if-self-d.false (sym same ∙ (sym c.eq.ensures ∙ c.if-eq.false))
