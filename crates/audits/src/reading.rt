@@ -86,7 +86,8 @@ pub fn read_landed(heap: Global, line: &str) -> Result<Change, Unread>
 // They are counted first and not collected: a change is an array and a count, with no heap.
 fn with_parts(number: u64, line: &str) -> Result<Change, Unread> {
     let words = || line.split_ascii_whitespace().skip(1);
-    let count = words().count();
+    // One too many is enough, however many follow.
+    let count = words().take(MOST_PARTS + 1).count();
     if count > MOST_PARTS {
         return Err(Malformed::Parts.into());
     }

@@ -16,7 +16,7 @@ use serial::{decide_serially, line_of};
 use std::alloc::{AllocError, Global};
 use std::fmt;
 
-#[derive(Clone, Copy)]
+#[derive(Clone, Copy, PartialEq, Eq)]
 pub enum Difference {
     // A change waits, and no run is running.
     Idle,
