@@ -82,18 +82,14 @@ pub fn read_landed(heap: Global, line: &str) -> Result<Change, Unread>
     }
 }
 
-// The change of this number with the parts that stand behind it in the line.
-// They are counted first and not collected: a change is an array and a count, with no heap.
+// The change of this number with the parts that stand behind it in the line, which is gone through once.
 fn with_parts(number: u64, line: &str) -> Result<Change, Unread> {
-    let words = || line.split_ascii_whitespace().skip(1);
-    // One too many is enough, however many follow.
-    let count = words().take(MOST_PARTS + 1).count();
-    if count > MOST_PARTS {
-        return Err(Malformed::Parts.into());
-    }
     let mut parts = [0u64; MOST_PARTS];
-    for (part, word) in parts.iter_mut().zip(words()) {
-        *part = number_below(word, PART_LIMIT).ok_or(Malformed::Parts)?;
+    let mut count = 0;
+    for word in line.split_ascii_whitespace().skip(1) {
+        let place = parts.get_mut(count).ok_or(Malformed::Parts)?;
+        *place = number_below(word, PART_LIMIT).ok_or(Malformed::Parts)?;
+        count += 1;
     }
     Ok(Change {
         number,
